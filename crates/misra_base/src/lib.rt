@@ -1,0 +1,20 @@
+//! What all crates speak of: places in a text, guidelines, findings, the report, and the refusal.
+#![tactic(auto)]
+
+mod finding;
+mod guideline;
+mod kind;
+mod lines;
+mod name;
+mod place;
+mod refusal;
+mod report;
+
+pub use finding::{Finding, FindingList};
+pub use guideline::Guideline;
+pub use kind::Kind;
+pub use lines::{refusal_line};
+pub use name::Name;
+pub use place::Place;
+pub use refusal::{CheckStop, Refusal};
+pub use report::Report;
