@@ -13,7 +13,7 @@ mod report;
 pub use finding::{Finding, FindingList};
 pub use guideline::Guideline;
 pub use kind::Kind;
-pub use lines::{refusal_line};
+pub use lines::{refusal_line, report_bytes};
 pub use name::Name;
 pub use place::Place;
 pub use refusal::{CheckStop, Refusal};
