@@ -1,0 +1,5 @@
+pub mod Bytes
+pub mod Positions
+pub mod Tokens
+pub mod Limits
+pub mod Scanning

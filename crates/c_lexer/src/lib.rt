@@ -1,0 +1,11 @@
+//! The tokens of a C text (C11 6.4), each with its place and its slice of the text.
+#![tactic(auto)]
+
+mod bytes;
+mod position;
+mod scanner;
+mod token;
+
+pub use position::{FIRST_PLACE, place_after};
+pub use scanner::{MAX_BYTES, MAX_TOKENS, tokens};
+pub use token::{Token, TokenClass};

@@ -1,0 +1,25 @@
+use misra_base::Place;
+
+/// What kind of token it is.
+#[derive(Clone, Copy, Debug, PartialEq, Eq)]
+pub enum TokenClass {
+    /// A letter or `_`, then letters, digits and `_`.
+    Word,
+    /// A digit, and what goes on a number.
+    Number,
+    /// A punctuator, or a byte that begins no token.
+    Other,
+}
+
+/// A token: its bytes are the slice of the text from `start` on.
+#[derive(Clone, Copy, Debug, PartialEq, Eq)]
+pub struct Token {
+    /// The number of its `TokenClass`.
+    pub class: u16,
+    /// The offset of its first byte.
+    pub start: u32,
+    /// How many bytes it has, at least one.
+    pub length: u32,
+    /// The place of its first byte.
+    pub place: Place,
+}
