@@ -3,3 +3,4 @@ pub mod Positions
 pub mod Tokens
 pub mod Limits
 pub mod Scanning
+pub mod Identifiers

@@ -1,4 +1,5 @@
-ghost use Rattle.std.specs.Prelude.{◌≡◌};
+ghost use Rattle.std.specs.Prelude.{◌≡◌, ◌≤◌, length};
+ghost use Rattle.std.specs.List.{prefix_len};
 ghost use Rattle.c_lexer.specs.Bytes.{is_blank, is_letter, is_digit, is_word_byte, is_number_byte};
 
 /// Space, tab and LF part tokens.
@@ -33,4 +34,30 @@ pub(crate) fn is_number_byte(byte: u8) -> bool
     ensures { result ≡ is_number_byte byte }
 {
     is_word_byte(byte) || byte == b'.'
+}
+
+/// How many word bytes stand at the front.
+pub(crate) fn word_rest(bytes: &[u8]) -> usize
+    ensures value { result ≡ prefix_len is_word_byte bytes.now }
+    ensures bound { result ≤ length bytes.now }
+{
+    for (i, byte) in bytes.iter().enumerate() {
+        if !is_word_byte(*byte) {
+            return i;
+        }
+    }
+    bytes.len()
+}
+
+/// How many bytes at the front go on a number.
+pub(crate) fn number_rest(bytes: &[u8]) -> usize
+    ensures value { result ≡ prefix_len is_number_byte bytes.now }
+    ensures bound { result ≤ length bytes.now }
+{
+    for (i, byte) in bytes.iter().enumerate() {
+        if !is_number_byte(*byte) {
+            return i;
+        }
+    }
+    bytes.len()
 }

@@ -2,10 +2,12 @@
 #![tactic(auto)]
 
 mod bytes;
+mod identifiers;
 mod position;
 mod scanner;
 mod token;
 
+pub use identifiers::is_identifier;
 pub use position::{FIRST_PLACE, place_after};
 pub use scanner::{MAX_BYTES, MAX_TOKENS, tokens};
 pub use token::{Token, TokenClass};

@@ -1,11 +1,9 @@
 ghost use Rattle.std.specs.Prelude.{◌≡◌, ◌≤◌, ◌<◌, ◌+◌, ◌^◌, ℕ, length, slice_index, MatchResult, IfOk, IfErr};
-ghost use Rattle.std.specs.List.{prefix_len};
-ghost use Rattle.c_lexer.specs.Bytes.{is_word_byte, is_number_byte};
 ghost use Rattle.c_lexer.specs.Tokens.{header_length, token_length, ampersand_length, token_class, tokens_of};
 ghost use Rattle.c_lexer.specs.Scanning.{GoesOn, MeetsLimit};
 ghost use Rattle.c_lexer.specs.Limits.{StopsBy, limit_fault};
 
-use crate::bytes::{is_blank, is_digit, is_letter, is_number_byte, is_word_byte};
+use crate::bytes::{is_blank, is_digit, is_letter, number_rest, word_rest};
 use crate::position::{FIRST_PLACE, place_after};
 use crate::token::{Token, TokenClass};
 use misra_base::{CheckStop, Name, Place, Refusal};
@@ -112,32 +110,6 @@ fn token_length(rest: &[u8]) -> usize
             }
         }
     }
-}
-
-/// How many word bytes stand at the front.
-fn word_rest(bytes: &[u8]) -> usize
-    ensures value { result ≡ prefix_len is_word_byte bytes.now }
-    ensures bound { result ≤ length bytes.now }
-{
-    for (i, byte) in bytes.iter().enumerate() {
-        if !is_word_byte(*byte) {
-            return i;
-        }
-    }
-    bytes.len()
-}
-
-/// How many bytes at the front go on a number.
-fn number_rest(bytes: &[u8]) -> usize
-    ensures value { result ≡ prefix_len is_number_byte bytes.now }
-    ensures bound { result ≤ length bytes.now }
-{
-    for (i, byte) in bytes.iter().enumerate() {
-        if !is_number_byte(*byte) {
-            return i;
-        }
-    }
-    bytes.len()
 }
 
 fn ampersand_length(more: &[u8]) -> usize
