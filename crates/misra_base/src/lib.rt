@@ -3,6 +3,7 @@
 
 mod finding;
 mod guideline;
+mod key_table;
 mod kind;
 mod lines;
 mod name;
@@ -12,6 +13,7 @@ mod report;
 
 pub use finding::{Finding, FindingList};
 pub use guideline::Guideline;
+pub use key_table::KeyTable;
 pub use kind::Kind;
 pub use lines::{refusal_line, report_bytes};
 pub use name::Name;
