@@ -1,12 +1,12 @@
 -- One more word: what was read stays sound, and its words are those before and this one.
-use Rattle.std.proofs.Common.{◌≡◌, ◌≤◌, ◌<◌, ◌+◌, ℕ, suc, zero, Bool, true, false, cond, ◌&&◌, not, List, [], ◌∷◌, ◌++◌, length, map, flat_map, codes, nat_lt, get_or, Option, Some, None, option_map, unwrap_or, append_assoc, append-nil, length-append, refl, sym, subst, ap, ◌∙◌, arith}
+use Rattle.std.proofs.Common.{◌≡◌, ◌≤◌, ◌<◌, ◌+◌, ℕ, suc, zero, Bool, true, false, cond, ◌&&◌, ◌||◌, not, List, [], ◌∷◌, ◌++◌, length, map, flat_map, codes, nat_lt, get_or, Option, Some, None, option_map, unwrap_or, append_assoc, append-nil, length-append, refl, sym, subst, ap, ◌∙◌, arith}
 use Rattle.std.proofs.lemmas.Bool.{ltb-true}
 use Rattle.std.proofs.lemmas.List.{map-append}
 use Rattle.std.proofs.lemmas.List.Quantifiers.{position-Some}
 use Rattle.std.proofs.lemmas.Grind.{flat_map-append}
 use Rattle.std.specs.Str.{bytes_eq}
 use Rattle.std.specs.Cmp.Lexicographic.{same_text}
-use Rattle.c_lexer.specs.Identifiers.{is_identifier}
+use Rattle.c_lexer.specs.Identifiers.{reserved_text, is_reserved, is_identifier}
 use Rattle.misra_base.specs.declared.place.Place.{Place}
 use Rattle.analysis.specs.declared.program.Operation.{Operation}
 use Rattle.analysis.specs.declared.program.Operation.TheVariants.{Init, Lock, Unlock}
@@ -122,9 +122,30 @@ at_argument r word place next Lock is e s =
 at_argument r word place next Unlock is e s =
     fixed Argument ArgumentsClosed r (codes ")") word place next e refl (rw is refl) (sym (append-nil (places_at Argument r))) (still Argument ArgumentsClosed r s s.here)
 
+absurd_bool : false ≡ true → ⊥
+absurd_bool e = cc
+
 -- no identifier is a called name
-not_called : (word : List ℕ) → is_identifier word ≡ true → is_called_name word ≡ false
-not_called word h = ?
+calls_reserved : (operation : Operation) → is_identifier (called_name operation) ≡ false
+unfolding is_reserved reserved_text
+calls_reserved Init = refl
+calls_reserved Lock = refl
+calls_reserved Unlock = refl
+
+pub not_called : (word : List ℕ) → is_identifier word ≡ true → is_called_name word ≡ false
+not_called word h =
+    go (bytes_eq word (codes "mtx_init")) (bytes_eq word (codes "mtx_lock")) (bytes_eq word (codes "mtx_unlock")) refl refl refl
+  where
+    no : (operation : Operation) → bytes_eq word (called_name operation) ≡ true → ⊥
+    no operation e =
+        let same : word ≡ called_name operation = same_text word (called_name operation) (sym e) in
+        let taken : is_identifier (called_name operation) ≡ true = rw same at h in
+        absurd_bool (sym (calls_reserved operation) ∙ taken)
+    go : (a b c : Bool) → bytes_eq word (codes "mtx_init") ≡ a → bytes_eq word (codes "mtx_lock") ≡ b → bytes_eq word (codes "mtx_unlock") ≡ c → a || b || c ≡ false
+    go true b c p q r = absurd (no Init p)
+    go false true c p q r = absurd (no Lock q)
+    go false false true p q r = absurd (no Unlock r)
+    go false false false p q r = refl
 
 -- ---- moves that change more than the position
 
