@@ -63,7 +63,7 @@ fixed p q r w word place next e whole part places sound =
     let t = expected w word q m.0 m.1 in
     let is_next : next ≡ record r { position = q } = m.2 ∙ ap (λ (position : Position). record r { position = position }) t.1 in
     let words : spelled_at q (record r { position = q }) ≡ spelled_at p r ++ w ∷ [] =
-        rw (whole, part) (sym (append_assoc (whole_at p r) (part_at p r) (w ∷ []))) in
+    rw (whole, part) (sym (append_assoc (whole_at p r) (part_at p r) (w ∷ []))) in
     subst (λ (v : List ℕ). Advances p r v place next) (sym t.0) (subst (λ (n : Reading). Advances p r w place n) (sym is_next) (record { sound = sound; words = words; places = places }))
 
 -- the same, where the words are compared as a whole
@@ -141,6 +141,7 @@ not_called word h =
         let same : word ≡ called_name operation = same_text word (called_name operation) (sym e) in
         let taken : is_identifier (called_name operation) ≡ true = rw same at h in
         absurd_bool (sym (calls_reserved operation) ∙ taken)
+
     go : (a b c : Bool) → bytes_eq word (codes "mtx_init") ≡ a → bytes_eq word (codes "mtx_lock") ≡ b → bytes_eq word (codes "mtx_unlock") ≡ c → a || b || c ≡ false
     go true b c p q r = absurd (no Init p)
     go false true c p q r = absurd (no Lock q)
@@ -188,7 +189,7 @@ named r word place next e s =
 
 declared_at : (r : Reading) (place : Place) (next : Reading) (name : List ℕ) → r.named ≡ Some name → Some (record r { position = Declarations; named = None; mutexes = r.mutexes ++ name ∷ [] }) ≡ Some next
     → IsSound Named r → Advances Named r (codes ";") place next
-declared_at r place next name is e s = 
+declared_at r place next name is e s =
     let naming = s.here in
     let same : name ≡ naming.name = same_some (sym is ∙ naming.named) in
     let identifier : is_identifier name ≡ true = rw same naming.new.identifier in
@@ -203,13 +204,13 @@ declared_at r place next name is e s =
         here = none;
       };
       words =
-        append-nil (flat_map declaration (r.mutexes ++ name ∷ [])) ∙ flat_map-append declaration r.mutexes (name ∷ [])
-        ∙ rw is (sym (append_assoc (declarations_of r) (codes "static" ∷ codes "mtx_t" ∷ name ∷ []) (codes ";" ∷ [])));
+          append-nil (flat_map declaration (r.mutexes ++ name ∷ [])) ∙ flat_map-append declaration r.mutexes (name ∷ [])
+          ∙ rw is (sym (append_assoc (declarations_of r) (codes "static" ∷ codes "mtx_t" ∷ name ∷ []) (codes ";" ∷ [])));
       places = sym (append-nil (places_at Named r));
     })
 
 declared : (r : Reading) (word : List ℕ) (place : Place) (next : Reading) → step_at Named r word place ≡ Some next → IsSound Named r → Advances Named r word place next
-declared r word place next e s = 
+declared r word place next e s =
     let c = ends (bytes_eq word (codes ";")) (option_map (λ (name : List ℕ). record r { position = Declarations; named = None; mutexes = r.mutexes ++ name ∷ [] }) r.named) next e in
     let m = mapped (λ (name : List ℕ). record r { position = Declarations; named = None; mutexes = r.mutexes ++ name ∷ [] }) r.named next c.1 in
     subst (λ (v : List ℕ). Advances Named r v place next) (sym (same_text word (codes ";") (sym c.0)))
@@ -244,7 +245,7 @@ called_place : (places : List Place) (word : List ℕ) (place : Place) (operatio
 called_place places word place operation w = rw (w, name_is_called operation) (ap (λ (ps : List Place). ps ++ place ∷ []) (sym (append-nil places)))
 
 called : (r : Reading) (word : List ℕ) (place : Place) (next : Reading) → step_at Cast r word place ≡ Some next → IsSound Cast r → Advances Cast r word place next
-called r word place next e s = 
+called r word place next e s =
     let m = mapped (λ (operation : Operation). record r { position = Called; pending = record { operation = operation; mutex = 0; place = place } }) (operation_of word) next e in
     let w = operation_word word m.0 m.1 in
     subst (λ (n : Reading). Advances Cast r word place n) (sym m.2) (record {
@@ -254,7 +255,7 @@ called r word place next e s =
     })
 
 located : (r : Reading) (word : List ℕ) (place : Place) (next : Reading) → step_at Ampersand r word place ≡ Some next → IsSound Ampersand r → Advances Ampersand r word place next
-located r word place next e s = 
+located r word place next e s =
     let m = mapped (λ (number : ℕ). record r { position = Argument; pending = record r.pending { mutex = number } }) (number_of r.mutexes word) next e in
     let found = position-Some (λ (n : List ℕ). bytes_eq n word) r.mutexes m.0 [] m.1 in
     let is_word : get_or r.mutexes m.0 [] ≡ word = same_text (get_or r.mutexes m.0 []) word (sym found.1) in
@@ -277,15 +278,15 @@ ended_words r =
     ∙ sym (append_assoc (front ++ statements) part (codes ";" ∷ []))
 
 ended : (r : Reading) (word : List ℕ) (place : Place) (next : Reading) → step_at ArgumentsClosed r word place ≡ Some next → IsSound ArgumentsClosed r → Advances ArgumentsClosed r word place next
-ended r word place next e s = 
+ended r word place next e s =
     let c = chosen (bytes_eq word (codes ";")) (record r { position = Statements; calls = r.calls ++ r.pending ∷ [] }) next e in
     subst (λ (v : List ℕ). Advances ArgumentsClosed r v place next) (sym (same_text word (codes ";") (sym c.0)))
     (subst (λ (n : Reading). Advances ArgumentsClosed r (codes ";") place n) c.1 (record {
       sound = record { declarable = s.declarable; few = s.few; declared = declared_more (length r.mutexes) r.calls r.pending s.declared s.here; here = tt };
       words = ended_words r;
       places =
-        append-nil (map (λ (call : Call). call.place) (r.calls ++ r.pending ∷ [])) ∙ map-append (λ (call : Call). call.place) r.calls (r.pending ∷ [])
-        ∙ sym (append-nil (places_at ArgumentsClosed r));
+          append-nil (map (λ (call : Call). call.place) (r.calls ++ r.pending ∷ [])) ∙ map-append (λ (call : Call). call.place) r.calls (r.pending ∷ [])
+          ∙ sym (append-nil (places_at ArgumentsClosed r));
     }))
 
 opened_words : (r : Reading) → r.calls ≡ [] → statements_of r ++ [] ≡ spelled_at ParametersClosed r ++ codes "{" ∷ []
@@ -294,7 +295,7 @@ opened_words r none =
     ∙ sym (append_assoc (declarations_of r) (part_at ParametersClosed r) (codes "{" ∷ [])))
 
 opened : (r : Reading) (word : List ℕ) (place : Place) (next : Reading) → step_at ParametersClosed r word place ≡ Some next → IsSound ParametersClosed r → Advances ParametersClosed r word place next
-opened r word place next e s = 
+opened r word place next e s =
     moves ParametersClosed Statements r (codes "{") word place next e (opened_words r s.here) (sym (append-nil (places_at ParametersClosed r)))
     (still ParametersClosed Statements r s tt)
 

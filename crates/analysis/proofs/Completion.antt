@@ -57,13 +57,12 @@ fresh_name names =
 -- up to the header of `main`
 header : (q : Position) (r : Reading) → IsSound q r → (part rest : List (List ℕ)) → part ++ rest ≡ opening_words ++ closing_words → IsViable (declarations_of r ++ part)
 header q r s part rest h =
-    let front = declarations_of r in
-    (
+    let front = declarations_of r in (
       record { mutexes = r.mutexes; calls = [] },
       rest,
       record { declarable = s.declarable; few = s.few; declared = tt },
       ap (λ (ws : List (List ℕ)). ws ++ closing_words) (append-nil (front ++ opening_words)) ∙ append_assoc front opening_words closing_words
-      ∙ ap (λ (ws : List (List ℕ)). front ++ ws) (sym h) ∙ sym (append_assoc front part rest),
+          ∙ ap (λ (ws : List (List ℕ)). front ++ ws) (sym h) ∙ sym (append_assoc front part rest),
     )
 
 -- inside a declaration
@@ -72,27 +71,25 @@ naming : (q : Position) (r : Reading) → IsSound q r → length r.mutexes < 64 
 naming q r s room name new part rest h =
     let front = declarations_of r in
     let names = r.mutexes ++ name ∷ [] in
-    let split : flat_map declaration names ≡ front ++ declaration name = flat_map-append declaration r.mutexes (name ∷ []) in
-    (
+    let split : flat_map declaration names ≡ front ++ declaration name = flat_map-append declaration r.mutexes (name ∷ []) in (
       record { mutexes = names; calls = [] },
       rest,
       record { declarable = declarable_more [] r.mutexes name s.declarable new.identifier new.fresh; few = rw length-append (omega arith); declared = tt },
       ap (λ (ws : List (List ℕ)). ws ++ closing_words) (append-nil (flat_map declaration names ++ opening_words))
-      ∙ append_assoc (flat_map declaration names) opening_words closing_words
-      ∙ ap (λ (ws : List (List ℕ)). ws ++ (opening_words ++ closing_words)) split
-      ∙ append_assoc front (declaration name) (opening_words ++ closing_words)
-      ∙ ap (λ (ws : List (List ℕ)). front ++ ws) (sym h) ∙ sym (append_assoc front part rest),
+          ∙ append_assoc (flat_map declaration names) opening_words closing_words
+          ∙ ap (λ (ws : List (List ℕ)). ws ++ (opening_words ++ closing_words)) split
+          ∙ append_assoc front (declaration name) (opening_words ++ closing_words)
+          ∙ ap (λ (ws : List (List ℕ)). front ++ ws) (sym h) ∙ sym (append_assoc front part rest),
     )
 
 -- between statements
 stating : (q : Position) (r : Reading) → IsSound q r → (part rest : List (List ℕ)) → part ++ rest ≡ closing_words → IsViable (statements_of r ++ part)
-stating q r s part rest h =
-    (
-      record { mutexes = r.mutexes; calls = r.calls },
-      rest,
-      record { declarable = s.declarable; few = s.few; declared = s.declared },
-      ap (λ (ws : List (List ℕ)). statements_of r ++ ws) (sym h) ∙ sym (append_assoc (statements_of r) part rest),
-    )
+stating q r s part rest h = (
+  record { mutexes = r.mutexes; calls = r.calls },
+  rest,
+  record { declarable = s.declarable; few = s.few; declared = s.declared },
+  ap (λ (ws : List (List ℕ)). statements_of r ++ ws) (sym h) ∙ sym (append_assoc (statements_of r) part rest),
+)
 
 -- inside a statement
 calling : (q : Position) (r : Reading) → IsSound q r → (call : Call) → call.mutex < length r.mutexes → (part rest : List (List ℕ))
@@ -102,15 +99,14 @@ calling q r s call within part rest h =
     let before = flat_map (call_words r.mutexes) r.calls in
     let words = call_words r.mutexes call in
     let split : flat_map (call_words r.mutexes) (r.calls ++ call ∷ []) ≡ before ++ words =
-        flat_map-append (call_words r.mutexes) r.calls (call ∷ []) ∙ ap (λ (ws : List (List ℕ)). before ++ ws) (append-nil words) in
-    (
+    flat_map-append (call_words r.mutexes) r.calls (call ∷ []) ∙ ap (λ (ws : List (List ℕ)). before ++ ws) (append-nil words) in (
       record { mutexes = r.mutexes; calls = r.calls ++ call ∷ [] },
       rest,
       record { declarable = s.declarable; few = s.few; declared = declared_more (length r.mutexes) r.calls call s.declared within },
       ap (λ (ws : List (List ℕ)). (front ++ ws) ++ closing_words) split
-      ∙ ap (λ (ws : List (List ℕ)). ws ++ closing_words) (sym (append_assoc front before words))
-      ∙ append_assoc (front ++ before) words closing_words
-      ∙ ap (λ (ws : List (List ℕ)). statements_of r ++ ws) (sym h) ∙ sym (append_assoc (statements_of r) part rest),
+          ∙ ap (λ (ws : List (List ℕ)). ws ++ closing_words) (sym (append_assoc front before words))
+          ∙ append_assoc (front ++ before) words closing_words
+          ∙ ap (λ (ws : List (List ℕ)). statements_of r ++ ws) (sym h) ∙ sym (append_assoc (statements_of r) part rest),
     )
 
 -- a lock of the first mutex

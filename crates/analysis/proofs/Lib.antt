@@ -1,3 +1,5 @@
 mod Spelled
 mod Advance
 mod Completion
+mod Complete
+mod Judged

@@ -1,6 +1,8 @@
 //! The whole analysis: from a text to its report, with the promise that a silent report is kept by every run.
 #![tactic(auto)]
 
+mod form;
+mod parsed;
 mod position;
 mod program;
 mod reading;

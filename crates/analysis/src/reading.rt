@@ -1,7 +1,8 @@
-ghost use Rattle.std.specs.Prelude.{◌≡◌, ◌<◌, ◌≤◌, ◌+◌, length, IfOk, IfErr, MatchBool, None, List};
+ghost use Rattle.std.specs.Prelude.{◌≡◌, IfOk, ◌≢◌, MatchBool, MatchOption};
 ghost use Rattle.analysis.specs.Reading.{expect, next_position, operation_of, number_of};
 ghost use Rattle.analysis.specs.Form.{is_declared};
 
+use crate::parsed::Parsed;
 use crate::position::Position;
 use crate::program::{Call, Operation};
 use c_lexer::{FIRST_PLACE, is_identifier};
@@ -68,6 +69,19 @@ impl Reading {
             Position::Ampersand => Ok(self.read_mutex(word)),
             Position::ArgumentsClosed => self.end_call(word),
             _ => Ok(self.read_position(word)),
+        }
+    }
+
+    /// The program, where a whole text of the form was read.
+    pub(crate) fn into_program(self) -> Option<Parsed>
+        ensures { MatchOption result (self.position ≢ Position.End) (λ p. (self.position ≡ Position.End) × (p ≡ record { mutexes = self.mutexes; calls = self.calls })) }
+    {
+        match self.position {
+            Position::End => Some(Parsed {
+                mutexes: self.mutexes,
+                calls: self.calls,
+            }),
+            _ => None,
         }
     }
 

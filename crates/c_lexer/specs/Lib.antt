@@ -1,5 +1,6 @@
 pub mod Bytes
 pub mod Positions
+pub mod Slices
 pub mod Tokens
 pub mod Limits
 pub mod Scanning

@@ -1,6 +1,7 @@
-ghost use Rattle.std.specs.Prelude.{◌≡◌, ◌≤◌, ◌<◌, ◌+◌, ◌^◌, ℕ, length, slice_index, MatchResult, IfOk, IfErr};
+ghost use Rattle.std.specs.Prelude.{◌≡◌, ◌≤◌, ◌<◌, ◌+◌, ◌^◌, ℕ, length, slice_index, All, MatchResult, IfOk, IfErr};
 ghost use Rattle.c_lexer.specs.Tokens.{header_length, token_length, ampersand_length, token_class, tokens_of};
 ghost use Rattle.c_lexer.specs.Scanning.{GoesOn, MeetsLimit};
+ghost use Rattle.c_lexer.specs.Slices.{AreInOrder, IsWithin};
 ghost use Rattle.c_lexer.specs.Limits.{StopsBy, limit_fault};
 
 use crate::bytes::{is_blank, is_digit, is_letter, number_rest, word_rest};
@@ -21,7 +22,9 @@ const INCLUDE: &[u8] = b"#include <threads.h>";
 /// The tokens of a text, in order. A text of more than `MAX_BYTES` bytes is refused as U5 at its
 /// first byte, and one with more than `MAX_TOKENS` tokens at the first token beyond them.
 pub fn tokens(alloc: Global, text: &[u8]) -> Result<Vec<Token>, CheckStop>
-    ensures { MatchResult result (λ v. (limit_fault text.now ≡ None) × (v.items ≡ tokens_of text.now)) (StopsBy (limit_fault text.now)) }
+    ensures exact { MatchResult result (λ v. (limit_fault text.now ≡ None) × (v.items ≡ tokens_of text.now)) (StopsBy (limit_fault text.now)) }
+    ensures ordered { IfOk result (λ v. AreInOrder 0 (length text.now) v.items) }
+    ensures within { IfOk result (λ v. All (IsWithin (length text.now)) v.items) }
 {
     if text.len() > MAX_BYTES {
         return Err(too_many(alloc, FIRST_PLACE, b"bytes"));

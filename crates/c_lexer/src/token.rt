@@ -1,3 +1,5 @@
+ghost use Rattle.std.specs.Prelude.{◌≡◌, ◌≤◌, ◌+◌, length};
+
 use misra_base::Place;
 
 /// What kind of token it is.
@@ -22,4 +24,18 @@ pub struct Token {
     pub length: u32,
     /// The place of its first byte.
     pub place: Place,
+}
+
+impl Token {
+    ghost use Rattle.c_lexer.specs.Tokens.{token_text};
+
+    /// The bytes of the token in its text.
+    pub fn text<'a>(&self, text: &'a [u8]) -> &'a [u8]
+        requires { self.now.start + self.now.length ≤ length text.now }
+        ensures { result.now ≡ token_text text.now self.now }
+    {
+        let start = self.start as usize;
+        let length = self.length as usize;
+        &text[start..start + length]
+    }
 }

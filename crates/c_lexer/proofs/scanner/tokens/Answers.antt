@@ -2,6 +2,7 @@ use Rattle.std.proofs.Common.{◌≡◌, ◌≤◌, length, drop, sym, ◌∙◌
 use Rattle.std.proofs.lemmas.Grind.{common_steps}
 use Rattle.std.proofs.lemmas.Result.{err_from_is_err_and}
 use Rattle.c_lexer.proofs.Cutting.{at_start, still_all, too_many_left, no_fault, at_end}
+use Rattle.c_lexer.proofs.Order.{tokens_ordered, all_within, header_within}
 use Rattle.c_lexer.proofs.scanner.tokens.Goals as goal
 
 pub loop-at-init : goal.loop-at-init
@@ -15,8 +16,8 @@ loop-at-init c =
       column = grind (arith, common_steps, c.place_after-place.ensures.column);
     }
 
-pub returns-in_err-length : goal.returns-in_err-length
-returns-in_err-length c =
+pub returns-in_err-length-clause-exact : goal.returns-in_err-length-clause-exact
+returns-in_err-length-clause-exact c =
     let p = err_from_is_err_and c.from_residual.result c.from_residual.ensures.1 in
     rw (p.1, p.2) (too_many_left c.args.text.now _ _ _ _ (omega arith) c.loop-at.invariant.same c.in_err-length.ensures.full)
 
@@ -31,8 +32,20 @@ loop-at-preserved c =
       column = grind (arith, common_steps, c.place_after-place-in-loop-at.ensures.column);
     }
 
-pub returns : goal.returns
-returns c =
+pub returns-clause-exact : goal.returns-clause-exact
+returns-clause-exact c =
     let past : length c.args.text.now ≤ c.loop-at.at = omega arith in
     let all = at_end _ _ _ _ past c.loop-at.invariant.same in
     (no_fault _ _ (omega arith) c.loop-at.invariant.few all, all)
+
+pub returns-clause-ordered : goal.returns-clause-ordered
+returns-clause-ordered c =
+    let past : length c.args.text.now ≤ c.loop-at.at = omega arith in
+    let all = at_end _ _ _ _ past c.loop-at.invariant.same in
+    rw all (tokens_ordered c.args.text.now (header_within c.args.text.now))
+
+pub returns-clause-within : goal.returns-clause-within
+returns-clause-within c =
+    let past : length c.args.text.now ≤ c.loop-at.at = omega arith in
+    let all = at_end _ _ _ _ past c.loop-at.invariant.same in
+    all_within c.args.text.now _ (rw all (tokens_ordered c.args.text.now (header_within c.args.text.now)))

@@ -1,0 +1,44 @@
+-- Which texts are supported, and the first fault of the others.
+use Rattle.std.specs.Prelude.{◌≡◌, ℕ, List, codes, slice_get, Option, Some, None}
+use Rattle.misra_base.specs.declared.place.Place.{Place}
+use Rattle.misra_base.specs.declared.refusal.Refusal.{Refusal}
+use Rattle.misra_base.specs.declared.refusal.CheckStop.{CheckStop}
+use Rattle.misra_base.specs.declared.refusal.CheckStop.TheVariants.{Refused, Memory}
+use Rattle.c_lexer.specs.declared.token.Token.{Token}
+use Rattle.c_lexer.specs.Positions.{end_place}
+use Rattle.c_lexer.specs.Tokens.{tokens_of}
+use Rattle.c_lexer.specs.Limits.{limit_fault}
+use Rattle.analysis.specs.Form.{Program, words_in, IsProgramOf, LeavesFormAt}
+
+abbrev pub place_or : Place → Option Token → Place
+place_or end None = end
+place_or end (Some token) = token.place
+
+-- the place of the k-th token, or of the text's end
+abbrev pub place_of : List ℕ → ℕ → Place
+place_of text k = place_or (end_place text) (slice_get (tokens_of text) k)
+
+-- the refusal U0 of a text that keeps the limits and is not of the form: the place is where it leaves the form
+pub record IsNotBuilt (text : List ℕ) (refusal : Refusal) : Type 0 where
+  pub word : ℕ
+  pub leaves : LeavesFormAt (words_in text) word
+  pub is : refusal ≡ record { code = 0; place = place_of text word; name = codes "not-built" }
+
+-- the limits come first
+abbrev pub IsFaultBehind : Option Refusal → List ℕ → Refusal → Type 0
+IsFaultBehind (Some limit) text refusal = refusal ≡ limit
+IsFaultBehind None text refusal = IsNotBuilt text refusal
+
+-- the first fault of a text
+abbrev pub IsFirstFault : List ℕ → Refusal → Type 0
+IsFirstFault text refusal = IsFaultBehind (limit_fault text) text refusal
+
+-- the text keeps the limits, and is of the form with this program
+pub record IsSupportedAs (text : List ℕ) (p : Program) : Type 0 where
+  pub limits : limit_fault text ≡ None
+  pub program : IsProgramOf text p
+
+-- how a phase stops at a text, unless memory ran out
+abbrev pub StopsAt : (Refusal → Type 0) → CheckStop → Type 0
+StopsAt fault Memory = Unit {0}
+StopsAt fault (Refused refusal) = fault refusal
