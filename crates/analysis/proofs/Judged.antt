@@ -117,7 +117,7 @@ only_program text p is =
 
 -- ---- a text outside the form
 
-goes_append : (text : List ℕ) (r : Reading) (xs ys : List Token) → goes text r (xs ++ ys) ≡ option_and_then (λ next. goes text next ys) (goes text r xs)
+pub goes_append : (text : List ℕ) (r : Reading) (xs ys : List Token) → goes text r (xs ++ ys) ≡ option_and_then (λ next. goes text next ys) (goes text r xs)
 goes_append text r [] ys = refl
 goes_append text r (x ∷ xs) ys = here (λ next. goes_append text next xs ys) (step r (token_text text x) x.place)
   where

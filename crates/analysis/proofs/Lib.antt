@@ -3,3 +3,4 @@ mod Advance
 mod Completion
 mod Complete
 mod Judged
+mod Verdict

@@ -1,10 +1,6 @@
-use Rattle.std.proofs.Common.{◌≡◌, ◌≤◌, length, All, IfOk, IfErr, MatchResult, codes, ℕ, ◌+◌, ◌-◌, ◌*◌, ◌<◌}
-use Rattle.misra_base.specs.declared.refusal.CheckStop.TheVariants.{Memory}
-use Rattle.c_lexer.specs.Slices.{IsWithin}
-use Rattle.c_lexer.specs.Tokens.{tokens_of}
-use Rattle.analysis.specs.Form.{Program, IsProgramOf}
-use Rattle.analysis.specs.Faults.{IsNotBuilt, StopsAt}
+use Rattle.std.proofs.Common.{◌≡◌, take, Some}
+use Rattle.analysis.specs.Reading.{opening_reading, goes}
 use Rattle.analysis.proofs.form.program_of.Given as goal
 
 abbrev pub invariant-loop-token : goal.invariant-loop-token
-invariant-loop-token l = ?
+invariant-loop-token l = goes l.text opening_reading (take l.token-index l.tokens) ≡ Some l.reading
