@@ -96,3 +96,45 @@ pub fn refusal_line(alloc: Global, refusal: &Refusal) -> Result<Vec<u8>, AllocEr
     out.push(b'\n')?;
     Ok(out)
 }
+
+#[cfg(test)]
+mod tests {
+    use super::*;
+    use crate::finding::FindingList;
+    use crate::kind::Kind;
+    use crate::name::Name;
+    use crate::place::Place;
+    use std::test::Fail;
+
+    fn finding_at(alloc: Global, other: Option<Place>) -> Result<Finding, AllocError> {
+        Ok(Finding {
+            guideline: Guideline::R22_17,
+            place: Place {
+                line: 6,
+                column: 11,
+            },
+            other,
+            function: Name::from_bytes(alloc, b"main")?,
+            object: Name::from_bytes(alloc, b"m")?,
+            kind: Kind::Unlock,
+        })
+    }
+
+    #[test]
+    fn a_report_has_findings_counts_and_their_number(rt: HostRuntime) -> Result<(), Fail> {
+        let alloc = rt.alloc();
+        let second = Place {
+            line: 19,
+            column: 5,
+        };
+        let found = vec![in alloc; finding_at(alloc, None)?, finding_at(alloc, Some(second))?]?;
+        let report = Report {
+            found: FindingList::from_vec(found),
+        };
+        let bytes = report_bytes(alloc, &report, &[Guideline::R22_16, Guideline::R22_17])?;
+        let wanted =
+            "report 1\nR22.17 6:11 main m unlock -\nR22.17 6:11 main m unlock 19:5\nR22.16 clean\nR22.17 2\nfindings 2\n";
+        assert_eq!(rt; bytes.as_slice(), wanted.as_bytes());
+        Ok(())
+    }
+}
