@@ -1,5 +1,5 @@
-ghost use Rattle.std.specs.Prelude.{Some};
-ghost use Rattle.misra_base.specs.Guidelines.{guideline_text};
+ghost use Rattle.std.specs.Prelude.{◌≡◌, Some};
+ghost use Rattle.misra_base.specs.Guidelines.{guideline_number, guideline_text};
 
 use std::fmt;
 
@@ -27,6 +27,15 @@ pub enum Guideline {
     R22_18,
     R22_19,
     R22_20,
+}
+
+impl Guideline {
+    /// The place of the guideline in their order, from 0 to 18.
+    pub fn number(self) -> usize
+        ensures { result ≡ guideline_number self }
+    {
+        self as usize
+    }
 }
 
 impl fmt::Display for Guideline {

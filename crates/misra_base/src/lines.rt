@@ -96,3 +96,81 @@ pub fn refusal_line(alloc: Global, refusal: &Refusal) -> Result<Vec<u8>, AllocEr
     out.push(b'\n')?;
     Ok(out)
 }
+
+#[cfg(test)]
+mod tests {
+    use super::*;
+    use crate::finding::FindingList;
+    use crate::kind::Kind;
+    use crate::name::Name;
+    use crate::place::Place;
+    use std::test::Fail;
+
+    fn unlock_at_6_11(alloc: Global, other: Option<Place>) -> Result<Finding, AllocError> {
+        Ok(Finding {
+            guideline: Guideline::R22_17,
+            place: Place {
+                line: 6,
+                column: 11,
+            },
+            other,
+            function: Name::from_bytes(alloc, b"main")?,
+            object: Name::from_bytes(alloc, b"m")?,
+            kind: Kind::Unlock,
+        })
+    }
+
+    fn report_of(found: Vec<Finding>) -> Report {
+        Report {
+            found: FindingList::from_vec(found),
+        }
+    }
+
+    #[test]
+    fn a_report_has_its_findings_its_counts_and_their_number(rt: HostRuntime) -> Result<(), Fail> {
+        let alloc = rt.alloc();
+        let judged = [Guideline::R22_17];
+
+        let silent = report_of(Vec::new(alloc));
+        let bytes = report_bytes(alloc, &silent, &judged)?;
+        assert_eq!(rt;
+            bytes.as_slice(),
+            b"report 1\nR22.17 clean\nfindings 0\n".as_slice()
+        );
+        assert!(rt; silent.is_clean(Guideline::R22_17));
+
+        let one = report_of(vec![in alloc; unlock_at_6_11(alloc, None)?]?);
+        let bytes = report_bytes(alloc, &one, &judged)?;
+        let wanted = b"report 1\nR22.17 6:11 main m unlock -\nR22.17 1\nfindings 1\n";
+        assert_eq!(rt; bytes.as_slice(), wanted.as_slice());
+        assert!(rt; !one.is_clean(Guideline::R22_17));
+        Ok(())
+    }
+
+    #[test]
+    fn a_finding_with_a_second_place_names_it_last(rt: HostRuntime) -> Result<(), Fail> {
+        let alloc = rt.alloc();
+        let second = Place {
+            line: 19,
+            column: 5,
+        };
+        let report = report_of(vec![in alloc; unlock_at_6_11(alloc, Some(second))?]?);
+        let bytes = report_bytes(alloc, &report, &[])?;
+        let wanted = b"report 1\nR22.17 6:11 main m unlock 19:5\nfindings 1\n";
+        assert_eq!(rt; bytes.as_slice(), wanted.as_slice());
+        Ok(())
+    }
+
+    #[test]
+    fn a_refusal_has_its_code_its_place_and_its_name(rt: HostRuntime) -> Result<(), Fail> {
+        let alloc = rt.alloc();
+        let refusal = Refusal {
+            code: 0,
+            place: Place { line: 6, column: 5 },
+            name: Name::from_bytes(alloc, b"not-built")?,
+        };
+        let bytes = refusal_line(alloc, &refusal)?;
+        assert_eq!(rt; bytes.as_slice(), b"refused U0 6:5 not-built\n".as_slice());
+        Ok(())
+    }
+}
