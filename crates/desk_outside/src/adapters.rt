@@ -1,6 +1,6 @@
 //! The real devices, a few lines over std. They tell nothing of content.
 
-ghost use Rattle.std.specs.Prelude.{None, refl};
+ghost use Rattle.std.specs.Prelude.{◌≡◌, None, refl};
 ghost use Rattle.std.specs.declared.option.Option.{Option};
 
 use crate::outside::{Failed, Files, OpenStop, Sink, Source, WriteStop};
@@ -18,7 +18,9 @@ pub struct StdFiles<R: rt::Files<File = File> + Drop> {
 
 impl<R: rt::Files<File = File> + Drop> StdFiles<R> {
     /// Keeps the runtime for its opens.
-    pub fn new(rt: R) -> StdFiles<R> {
+    pub fn new(rt: R) -> StdFiles<R>
+        ensures { ⟦<StdFiles<R> as Source>⟧.faults result ≡ 0 }
+    {
         StdFiles {
             rt,
             current: None,
@@ -87,7 +89,9 @@ pub struct StdSink<W: Write + Drop> {
 
 impl<W: Write + Drop> StdSink<W> {
     /// Writes go to `inner`.
-    pub fn new(inner: W) -> StdSink<W> {
+    pub fn new(inner: W) -> StdSink<W>
+        ensures { ⟦<StdSink<W> as Sink>⟧.faults result ≡ 0 }
+    {
         StdSink { inner, faults: 0 }
     }
 }

@@ -14,3 +14,6 @@ pub use loops::{ReadStop, read_up_to, write_all};
 pub use memory::{MemoryFiles, MemorySink};
 pub use outside::{Failed, Files, OpenStop, Sink, Source, WriteStop};
 pub use sure::{SureFiles, SureSink};
+
+#[cfg(test)]
+mod tests;

@@ -1,4 +1,4 @@
-ghost use Rattle.std.specs.Prelude.{◌≡◌, ◌≤◌, ◌<◌, ℕ, length, take, OnOk, OnErr, IfOk, IsErrOf};
+ghost use Rattle.std.specs.Prelude.{◌≡◌, ◌≤◌, ◌<◌, ℕ, length, take, OnOk, OnErr, IfOk, IfSome, IsErrOf};
 ghost use Rattle.desk_outside.specs.Causes.{HasCause};
 ghost use Rattle.std.specs.Io.KnownBytes.{Consumes, Appends, IsAtEnd};
 ghost use Rattle.desk_outside.specs.declared.loops.ReadStop.TheVariants as stops;
@@ -34,7 +34,8 @@ impl From<AllocError> for ReadStop {
 }
 
 /// The bytes of a source to its end, or the first `limit` of them. It takes nothing beyond these.
-/// After an `Err` some bytes may be lost.
+/// After an `Err` the bytes that it took by then are lost.
+#[tactic(auto, using(crate::proofs::FirstBytes::first_of))]
 pub fn read_up_to<S: Source>(
     alloc: Global,
     source: &mut S,
@@ -43,6 +44,7 @@ pub fn read_up_to<S: Source>(
     ensures bytes { IfOk result (λ v. Consumes (S.left source.old) (S.left source.new) v.items) }
     ensures bound { IfOk result (λ v. length v.items ≤ limit) }
     ensures whole { IfOk result (λ v. length v.items < limit → IsAtEnd (S.left source.new)) }
+    ensures first { IfOk result (λ v. IfSome (S.left source.old) (λ all. v.items ≡ take limit all)) }
     ensures rest { S.rest source.new ≡ S.rest source.old }
     ensures cause { HasCause ReadStop.Failed (S.faults source.old) (S.faults source.new) result }
     ensures memory { IsErrOf result ReadStop.Memory → S.faults source.new ≡ S.faults source.old }
