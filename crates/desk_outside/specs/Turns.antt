@@ -3,10 +3,9 @@ use Rattle.std.specs.Prelude.{◌≡◌, ◌≤◌, ℕ, List, length, take}
 use Rattle.std.specs.declared.option.Option.{Option}
 use Rattle.std.specs.Io.KnownBytes.{Consumes, Appends}
 
-pub record Reads {Rest : Type 0} (turn limit : ℕ) (old new : Option (List ℕ)) (bytes : List ℕ) (rest_old rest_new : Rest) (before now : ℕ) : Type 0 where
+pub record Reads {Rest : Type 0} (limit : ℕ) (old new : Option (List ℕ)) (bytes : List ℕ) (rest_old rest_new : Rest) (before now : ℕ) : Type 0 where
   pub taken : Consumes old new bytes
   pub bound : length bytes ≤ limit
-  pub each : turn ≤ length bytes
   pub rest : rest_new ≡ rest_old
   pub faults : now ≡ before
 

@@ -1,6 +1,7 @@
-ghost use Rattle.std.specs.Prelude.{◌≡◌, ◌≤◌, ◌<◌, ℕ, length, take, OnOk, OnErr, IfOk, IfSome, IsErrOf};
+ghost use Rattle.std.specs.Prelude.{◌≡◌, ◌≤◌, ◌<◌, ◌+◌, ℕ, List, length, take, OnOk, OnErr, IfOk, IfSome, IsErrOf};
 ghost use Rattle.desk_outside.specs.Causes.{HasCause};
 ghost use Rattle.std.specs.Io.KnownBytes.{Consumes, Appends, IsAtEnd};
+ghost use Rattle.std.specs.declared.option.Option.{Option};
 ghost use Rattle.desk_outside.specs.declared.loops.ReadStop.TheVariants as stops;
 
 use crate::outside::{Failed, Sink, Source, WriteStop};
@@ -50,19 +51,33 @@ pub fn read_up_to<S: Source>(
     ensures memory { IsErrOf result ReadStop.Memory → S.faults source.new ≡ S.faults source.old }
 {
     let mut bytes = Vec::new(alloc);
-    let mut room = [0; ROOM];
-    for _ in 0..limit {
-        let want = usize::min(limit - bytes.len(), ROOM);
-        if want == 0 {
-            break;
-        }
-        let count = source.read(&mut room[..want])?;
-        if count == 0 {
+    while bytes.len() < limit {
+        let want = limit - bytes.len();
+        if read_piece(source, &mut bytes, want)? == 0 {
             return Ok(bytes);
         }
-        bytes.extend_from_slice(&room[..count])?;
     }
     Ok(bytes)
+}
+
+/// Moves some bytes of the source to the end of these, at most so many, and answers how many.
+fn read_piece<S: Source>(
+    source: &mut S,
+    bytes: &mut Vec<u8>,
+    most: usize,
+) -> Result<usize, ReadStop>
+    ensures taken { OnOk result ((start : Option (List ℕ)) → Consumes start (S.left source.old) bytes.old.items → Consumes start (S.left source.new) bytes.new.items) }
+    ensures count { IfOk result (λ count. (count ≤ most) × (length bytes.new.items ≡ length bytes.old.items + count)) }
+    ensures end { IfOk result (λ count. count ≡ 0 → 0 < most → IsAtEnd (S.left source.new)) }
+    ensures rest { S.rest source.new ≡ S.rest source.old }
+    ensures cause { HasCause ReadStop.Failed (S.faults source.old) (S.faults source.new) result }
+    ensures memory { IsErrOf result ReadStop.Memory → S.faults source.new ≡ S.faults source.old }
+{
+    let mut room = [0; ROOM];
+    let want = most.min(ROOM);
+    let count = source.read(&mut room[..want])?;
+    bytes.extend_from_slice(&room[..count])?;
+    Ok(count)
 }
 
 /// Writes all the bytes, or after an `Err` the first of them.
