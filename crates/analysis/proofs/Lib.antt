@@ -4,3 +4,5 @@ mod Completion
 mod Complete
 mod Judged
 mod Verdict
+mod Depth
+mod Silence
