@@ -13,7 +13,7 @@ use Rattle.analysis.specs.declared.program.Operation.TheVariants.{Init, Lock, Un
 use Rattle.analysis.specs.declared.program.Call.{Call}
 use Rattle.analysis.specs.declared.position.Position.{Position}
 use Rattle.analysis.specs.declared.position.Position.TheVariants.{Declarations, Static, MutexType, Named, Int, Main, ParametersOpened, Parameters, ParametersClosed, Statements, CastOpened, CastType, Cast, Called, ArgumentsOpened, Ampersand, Argument, Comma, Kind, ArgumentsClosed, Return, Zero, Returned, End}
-use Rattle.analysis.specs.Form.{declaration, called_name, last_arguments, call_words, opening_words, is_declared, is_called_name, AreDeclarable, NameDeclared}
+use Rattle.analysis.specs.Form.{declaration, called_name, last_arguments, call_words, opening_words, is_declared, is_called_name, AreDeclarable, CallDeclared}
 use Rattle.analysis.specs.Reading.{Reading, expect, next_position, operation_of, number_of, step_at}
 use Rattle.analysis.proofs.Spelled.{declarations_of, statements_of, called_part, argument_part, spelled_at, whole_at, part_at, places_at, HoldsAtPosition, IsSound, IsNaming, IsNew}
 
@@ -157,7 +157,7 @@ declarable_more before [] name h identifier fresh = (identifier, rw (append-nil 
 declarable_more before (n ∷ ns) name h identifier fresh =
     (h.0, h.1, declarable_more (before ++ n ∷ []) ns name h.2 identifier (rw (append_assoc before (n ∷ []) ns) fresh))
 
-pub declared_more : (mutexes : ℕ) (calls : List Call) (call : Call) → NameDeclared mutexes calls → call.mutex < mutexes → NameDeclared mutexes (calls ++ call ∷ [])
+pub declared_more : (mutexes : ℕ) (calls : List Call) (call : Call) → CallDeclared mutexes calls → call.mutex < mutexes → CallDeclared mutexes (calls ++ call ∷ [])
 declared_more mutexes [] call h within = (within, tt)
 declared_more mutexes (c ∷ cs) call h within = (h.0, declared_more mutexes cs call h.1 within)
 

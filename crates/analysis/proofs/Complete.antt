@@ -16,7 +16,7 @@ use Rattle.analysis.specs.declared.program.Operation.TheVariants.{Init, Lock, Un
 use Rattle.analysis.specs.declared.program.Call.{Call}
 use Rattle.analysis.specs.declared.position.Position.{Position}
 use Rattle.analysis.specs.declared.position.Position.TheVariants.{Declarations, Static, MutexType, Named, Int, Main, ParametersOpened, Parameters, ParametersClosed, Statements, CastOpened, CastType, Cast, Called, ArgumentsOpened, Ampersand, Argument, Comma, Kind, ArgumentsClosed, Return, Zero, Returned, End}
-use Rattle.analysis.specs.Form.{Program, declaration, called_name, call_words, opening_words, closing_words, words_of, is_declared, AreDeclarable, NameDeclared, IsOfForm}
+use Rattle.analysis.specs.Form.{Program, declaration, called_name, call_words, opening_words, closing_words, words_of, is_declared, AreDeclarable, CallDeclared, IsOfForm}
 use Rattle.analysis.specs.Reading.{Reading, opening_reading, expect, next_position, operation_of, number_of, with_position, step_at, step, goes}
 
 -- ---- reading without places
@@ -173,7 +173,7 @@ reads_call ms calls pending Unlock mutex place h within =
     let some : nat_lt 0 (length ms) ≡ true = lt-ltb 0 (length ms) (omega (arith, within)) in
     rw (some, number_at ms mutex h within) refl
 
-reads_calls : (ms : List (List ℕ)) (before calls : List Call) (pending : Call) → AreDeclarable [] ms → NameDeclared (length ms) calls
+reads_calls : (ms : List (List ℕ)) (before calls : List Call) (pending : Call) → AreDeclarable [] ms → CallDeclared (length ms) calls
     → (last : Call) × (runs (body ms before pending) (flat_map (call_words ms) calls) ≡ Some (body ms (before ++ map plain_call calls) last))
 reads_calls ms before [] pending h within = (pending, rw append-nil refl)
 reads_calls ms before (c ∷ cs) pending h within =

@@ -15,7 +15,7 @@ use Rattle.analysis.specs.declared.program.Operation.TheVariants.{Init, Lock, Un
 use Rattle.analysis.specs.declared.program.Call.{Call}
 use Rattle.analysis.specs.declared.position.Position.{Position}
 use Rattle.analysis.specs.declared.position.Position.TheVariants.{Declarations, Static, MutexType, Named, Int, Main, ParametersOpened, Parameters, ParametersClosed, Statements, CastOpened, CastType, Cast, Called, ArgumentsOpened, Ampersand, Argument, Comma, Kind, ArgumentsClosed, Return, Zero, Returned, End}
-use Rattle.analysis.specs.Form.{Program, declaration, last_arguments, call_words, opening_words, closing_words, words_of, is_declared, AreDeclarable, NameDeclared, IsOfForm, IsViable}
+use Rattle.analysis.specs.Form.{Program, declaration, last_arguments, call_words, opening_words, closing_words, words_of, is_declared, AreDeclarable, CallDeclared, IsOfForm, IsViable}
 use Rattle.analysis.specs.Reading.{Reading}
 use Rattle.analysis.proofs.Spelled.{declarations_of, statements_of, called_part, argument_part, spelled_at, part_at, IsSound, IsNew}
 use Rattle.analysis.proofs.Advance.{declarable_more, declared_more}

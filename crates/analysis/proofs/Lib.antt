@@ -6,3 +6,5 @@ mod Judged
 mod Verdict
 mod Depth
 mod Silence
+mod Turns
+mod Exclusion

@@ -34,7 +34,7 @@ follows Takes depth = eq-eqb (min (depth + 1) 8) (min (min depth 8 + 1) 8) (omeg
 follows Gives depth =
     let where_is : (depth ≤ 8) ⊎ (9 ≤ depth) = grind arith in
     elim where_is [
-      inl small ↦ or_first (nat_eq (min (depth - 1) 8) (min depth 8 - 1)) (nat_eq (min depth 8) 8 && nat_eq (min (depth - 1) 8) 8)
+      | inl small ↦ or_first (nat_eq (min (depth - 1) 8) (min depth 8 - 1)) (nat_eq (min depth 8) 8 && nat_eq (min (depth - 1) 8) 8)
           (eq-eqb (min (depth - 1) 8) (min depth 8 - 1) (omega (arith, small)))
       | inr large ↦ or_second (nat_eq (min (depth - 1) 8) (min depth 8 - 1)) (nat_eq (min depth 8) 8 && nat_eq (min (depth - 1) 8) 8)
           (rw (eq-eqb (min depth 8) 8 (omega (arith, large)), eq-eqb (min (depth - 1) 8) 8 (omega (arith, large))) refl)
@@ -191,6 +191,7 @@ initial p state choice good found = here (nat_eq choice.thread 0) refl
       where
         not_running : Not_made ≡ Running (found.action ∷ found.control) → ⊥
         not_running e = cc
+
     here : (b : Bool) → nat_eq choice.thread 0 ≡ b → choice.thread ≡ 0
     here true e = exact_unsigned_eq choice.thread 0 e
     here false e = absurd (no (λ same. absurd_bool (sym e ∙ eq-eqb choice.thread 0 same)))
@@ -233,7 +234,7 @@ followed_after : (state : State) (thread : ℕ) (call : Call) (control : Control
 unfolding after
 followed_after state thread call control before is serve followed = λ mutex.
     let depth : depth_of 0 (life_after 0 (request_of (Calls call)) mutex (state.mutex mutex)) ≡ run_depth (use_of call mutex) (depth_of 0 (state.mutex mutex)) =
-        changed state call.operation call.mutex mutex (nat_eq call.mutex mutex) refl serve in
+    changed state call.operation call.mutex mutex (nat_eq call.mutex mutex) refl serve in
     rw (is, depth) (followed_more mutex before call (depth_of 0 (state.mutex mutex)) (followed mutex))
 
 silent_rest : (xs ys : List Finding) → AllByRecursion (λ (f : Finding). f.guideline ≢ R22_17) (xs ++ ys) → AllByRecursion (λ (f : Finding). f.guideline ≢ R22_17) ys
@@ -259,7 +260,7 @@ stays_good p state choice next good m =
         let same : Calls call ≡ m.acts.action = cc in
         let left : control_of rest ≡ m.acts.control = cc in
         let serve : MayServe state (request_of (Calls call)) =
-            subst (λ (a : Action). MayServe state (request_of a)) (sym same) (may_serve state choice.thread (request_of m.acts.action) is m.moves m.defined) in
+        subst (λ (a : Action). MayServe state (request_of a)) (sym same) (may_serve state choice.thread (request_of m.acts.action) is m.moves m.defined) in
         let next : Stands p (after state choice.thread (request_of (Calls call)) (control_of rest)) = record {
           before = call ∷ s.before;
           rest = rest;
@@ -295,6 +296,7 @@ found p state thread s call rest Unlock e is broken silent =
   where
     both_true : (a b : Bool) → a ≡ true → b ≡ true → a && b ≡ true
     both_true a b x y = rw (x, y) refl
+
     first : (b : Bool) (f : Finding) (ys : List Finding) → b ≡ true → AllByRecursion (λ (g : Finding). g.guideline ≢ R22_17) (cond b (f ∷ []) [] ++ ys) → f.guideline ≢ R22_17
     first true f ys x h = h.0
     first false f ys x h = absurd cc

@@ -6,7 +6,7 @@ use Rattle.analysis.specs.declared.program.Operation.TheVariants.{Init}
 use Rattle.analysis.specs.declared.program.Call.{Call}
 use Rattle.analysis.specs.declared.position.Position.{Position}
 use Rattle.analysis.specs.declared.position.Position.TheVariants.{Declarations, Static, MutexType, Named, Int, Main, ParametersOpened, Parameters, ParametersClosed, Statements, CastOpened, CastType, Cast, Called, ArgumentsOpened, Ampersand, Argument, Comma, Kind, ArgumentsClosed, Return, Zero, Returned, End}
-use Rattle.analysis.specs.Form.{declaration, called_name, last_arguments, call_words, opening_words, is_declared, AreDeclarable, NameDeclared}
+use Rattle.analysis.specs.Form.{declaration, called_name, last_arguments, call_words, opening_words, is_declared, AreDeclarable, CallDeclared}
 use Rattle.analysis.specs.Reading.{Reading}
 
 -- the words of the whole declarations and statements
@@ -118,5 +118,5 @@ HoldsAtPosition _ r = Unit {0}
 pub record IsSound (q : Position) (r : Reading) : Type 0 where
   pub declarable : AreDeclarable [] r.mutexes
   pub few : length r.mutexes ≤ 64
-  pub declared : NameDeclared (length r.mutexes) r.calls
+  pub declared : CallDeclared (length r.mutexes) r.calls
   pub here : HoldsAtPosition q r

@@ -31,8 +31,8 @@ no_program text k e p is =
     let only = only_program text p is in
     let split : tokens_of text ≡ take k (tokens_of text) ++ drop k (tokens_of text) = sym (take-append-drop k (tokens_of text)) in
     let gone : goes text opening_reading (tokens_of text) ≡ None =
-        ap (λ (ts : List Token). goes text opening_reading ts) split ∙ goes_append text opening_reading (take k (tokens_of text)) (drop k (tokens_of text))
-        ∙ ap (λ (o : Option Reading). option_and_then (λ next. goes text next (drop k (tokens_of text))) o) e in
+    ap (λ (ts : List Token). goes text opening_reading ts) split ∙ goes_append text opening_reading (take k (tokens_of text)) (drop k (tokens_of text))
+    ∙ ap (λ (o : Option Reading). option_and_then (λ next. goes text next (drop k (tokens_of text))) o) e in
     absurd_some (sym only.1 ∙ gone)
   where
     absurd_some : {x : Reading} → Some x ≡ None → ⊥

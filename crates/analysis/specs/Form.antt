@@ -58,15 +58,15 @@ abbrev pub AreDeclarable : List (List ℕ) → List (List ℕ) → Type 0
 AreDeclarable before [] = Unit {0}
 AreDeclarable before (name ∷ names) = (is_identifier name ≡ true) × (is_declared before name ≡ false) × AreDeclarable (before ++ name ∷ []) names
 
-abbrev pub NameDeclared : ℕ → List Call → Type 0
-NameDeclared mutexes [] = Unit {0}
-NameDeclared mutexes (call ∷ calls) = (call.mutex < mutexes) × NameDeclared mutexes calls
+abbrev pub CallDeclared : ℕ → List Call → Type 0
+CallDeclared mutexes [] = Unit {0}
+CallDeclared mutexes (call ∷ calls) = (call.mutex < mutexes) × CallDeclared mutexes calls
 
 -- at most 64 mutexes with different names, and calls on these alone
 pub record IsOfForm (p : Program) : Type 0 where
   pub declarable : AreDeclarable [] p.mutexes
   pub few : length p.mutexes ≤ 64
-  pub declared : NameDeclared (length p.mutexes) p.calls
+  pub declared : CallDeclared (length p.mutexes) p.calls
 
 -- ---- texts
 

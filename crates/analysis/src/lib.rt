@@ -1,7 +1,10 @@
 //! The whole analysis: from a text to its report, with the promise that a silent report is kept by every run.
 #![tactic(auto)]
 
+mod analyse;
+mod findings;
 mod form;
+mod laws;
 mod parsed;
 mod position;
 mod program;

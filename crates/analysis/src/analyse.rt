@@ -1,0 +1,47 @@
+ghost use Rattle.std.specs.Prelude.{◌≡◌, ◌<◌, List, length, All, IfOk, IfErr, MatchResult};
+ghost use Rattle.misra_base.specs.Reports.{IsSilent};
+ghost use Rattle.misra_base.specs.declared.refusal.CheckStop.TheVariants.{Memory};
+ghost use Rattle.misra_base.specs.declared.guideline.Guideline.TheVariants.{R22_17};
+ghost use Rattle.analysis.specs.Form.{Program};
+ghost use Rattle.analysis.specs.Faults.{IsSupportedAs, IsFirstFault, StopsAt};
+ghost use Rattle.analysis.specs.Findings.{findings_of as found_in};
+ghost use Rattle.analysis.specs.Step.{Choice};
+ghost use Rattle.analysis.specs.Runs.{IsRun, Breaks};
+
+use crate::findings::findings_of;
+use crate::form::program_of;
+use crate::laws::silence_is_sound;
+use crate::parsed::Parsed;
+use c_lexer::tokens;
+use misra_base::{CheckStop, FindingList, Report};
+use std::alloc::{AllocError, Global};
+
+/// The report of a text, or the first thing in it that is not supported. `CheckStop::Memory` comes
+/// for want of memory alone.
+pub fn analyse(alloc: Global, text: &[u8]) -> Result<Report, CheckStop>
+    // A report is that of the text's program.
+    ensures report { IfOk result (λ report. (p : Program) × IsSupportedAs text.now p × (report.found ≡ found_in p)) }
+    // A supported text has its report, unless memory runs out.
+    ensures only { (p : Program) → IsSupportedAs text.now p → MatchResult result (λ report. report.found ≡ found_in p) (λ e. e ≡ Memory) }
+    // Any other text is refused by its first fault.
+    ensures refused { IfErr result (StopsAt (IsFirstFault text.now)) }
+    // Where Rule 22.17 has no finding, no step of any run of the text breaks it.
+    ensures silence { IfOk result (λ report. (p : Program) → IsSupportedAs text.now p → IsSilent R22_17 report.found
+        → (run : List Choice) → IsRun p run → ¬ (Breaks R22_17 p run)) }
+{
+    let tokens = tokens(alloc, text)?;
+    let program = program_of(alloc, text, &tokens)?;
+    let report = report_of(alloc, &program)?;
+    silence_is_sound();
+    Ok(report)
+}
+
+fn report_of(alloc: Global, program: &Parsed) -> Result<Report, AllocError>
+    requires { All (λ call. call.mutex < length program.now.mutexes) program.now.calls }
+    ensures { IfOk result (λ report. report.found ≡ found_in program.now) }
+{
+    let found = findings_of(alloc, &program.mutexes, &program.calls)?;
+    Ok(Report {
+        found: FindingList::from_vec(found),
+    })
+}

@@ -1,0 +1,39 @@
+//! Laws of the definitions, each the contract of a function that does nothing.
+
+ghost use Rattle.std.specs.Prelude.{◌≡◌, true, List, ℕ};
+ghost use Rattle.misra_base.specs.declared.refusal.Refusal.{Refusal};
+ghost use Rattle.misra_base.specs.declared.guideline.Guideline.TheVariants.{R22_17};
+ghost use Rattle.misra_base.specs.Reports.{IsSilent};
+ghost use Rattle.analysis.specs.Form.{Program};
+ghost use Rattle.analysis.specs.Faults.{IsSupportedAs, IsFirstFault};
+ghost use Rattle.analysis.specs.Findings.{findings_of};
+ghost use Rattle.analysis.specs.Step.{Choice};
+ghost use Rattle.analysis.specs.Runs.{IsRun, IsGoodRun, Breaks, state_after};
+ghost use Rattle.analysis.specs.Samples.{unlock_alone, lock_and_unlock};
+
+/// Where Rule 22.17 has no finding in a program, no run of it, of any length, breaks the rule by its
+/// last step.
+pub fn silence_is_sound()
+    ensures { (p : Program) → IsSilent R22_17 (findings_of p) → (run : List Choice) → IsRun p run → ¬ (Breaks R22_17 p run) }
+{}
+
+/// A supported text has no fault.
+pub fn supported_has_no_fault()
+    ensures { (text : List ℕ) (p : Program) (refusal : Refusal) → IsSupportedAs text p → ¬ (IsFirstFault text refusal) }
+{}
+
+/// The first fault of a text is one.
+pub fn first_fault_is_one()
+    ensures { (text : List ℕ) (a b : Refusal) → IsFirstFault text a → IsFirstFault text b → a ≡ b }
+{}
+
+/// The definitions of runs are not empty: a program that unlocks what it does not own has a run whose
+/// last step breaks Rule 22.17.
+pub fn some_run_breaks()
+    ensures { (run : List Choice) × IsRun unlock_alone run × Breaks R22_17 unlock_alone run }
+{}
+
+/// A program that locks first has a run that comes to the return of `main`.
+pub fn some_run_returns()
+    ensures { (run : List Choice) × IsGoodRun lock_and_unlock run × ((state_after lock_and_unlock run).is_over ≡ true) }
+{}
