@@ -101,12 +101,14 @@ impl Model for FindingList {
 }
 
 impl FindingList {
+    /// The list of these findings, in their order.
     pub fn from_vec(items: Vec<Finding>) -> FindingList
         ensures { result ≡ items.items }
     {
         FindingList { content: items }
     }
 
+    /// The findings, in their order.
     pub fn items(&self) -> &[Finding]
         ensures { result.now ≡ self.now }
     {

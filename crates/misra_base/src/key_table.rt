@@ -3,11 +3,11 @@ ghost use Rattle.misra_base.specs.Keys.{are_keys, ends_of, rows_of, number_in, r
 
 use std::cmp::Ordering;
 
-/// A table from words to numbers. Its rows are told by `rows` of the definitions.
+/// A table of N rows, each a word with its number. Contracts see the rows by `rows` of the definitions.
 #[derive(Debug, Drop)]
 pub struct KeyTable<const N: usize> {
     words: &'static str,
-    /// Where each word ends. One byte parts it from the next one.
+    /// Where each word ends. One space parts it from the next one.
     ends: [usize; N],
     numbers: [u16; N],
     ghost keys: { are_keys N words.now ≡ true },
@@ -17,7 +17,9 @@ pub struct KeyTable<const N: usize> {
 impl<const N: usize> KeyTable<N> {
     ghost use Rattle.misra_base.specs.Tables.{rows};
 
-    /// A table whose k-th row has the k-th word and the k-th number.
+    /// A table whose k-th row has the k-th word and the k-th number. The text has N words of at least
+    /// one byte, parted by one space, distinct and in order of their bytes; the empty text has no word.
+    /// Takes no memory.
     pub fn new(words: &'static str, numbers: [u16; N]) -> KeyTable<N>
         requires { are_keys N words.now ≡ true }
         ensures { rows result ≡ rows_of words.now numbers.entry }
@@ -31,7 +33,7 @@ impl<const N: usize> KeyTable<N> {
         }
     }
 
-    /// The number of the row with the word.
+    /// The number of the row with the word, and `None` where no row has it. Takes no memory.
     pub fn find_bytes(&self, word: &[u8]) -> Option<u16>
         ensures number { result ≡ number_in (rows self.now) word.now }
         ensures listed { (n : ℕ) → (result ≡ Some n) ↔ Contains (rows self.now) (word.now, n) }
@@ -40,7 +42,7 @@ impl<const N: usize> KeyTable<N> {
         Some(self.numbers[row])
     }
 
-    /// The number of the row with the word.
+    /// The number of the row with the word, and `None` where no row has it. Takes no memory.
     pub fn find(&self, word: &str) -> Option<u16>
         ensures number { result ≡ number_in (rows self.now) word.now }
         ensures listed { (n : ℕ) → (result ≡ Some n) ↔ Contains (rows self.now) (word.now, n) }

@@ -129,35 +129,37 @@ mod tests {
     #[test]
     fn a_report_has_its_findings_its_counts_and_their_number(rt: HostRuntime) -> Result<(), Fail> {
         let alloc = rt.alloc();
-        let judged = [Guideline::R22_17];
-
-        let silent = report_of(Vec::new(alloc));
-        let bytes = report_bytes(alloc, &silent, &judged)?;
-        assert_eq!(rt;
-            bytes.as_slice(),
-            b"report 1\nR22.17 clean\nfindings 0\n".as_slice()
-        );
-        assert!(rt; silent.is_clean(Guideline::R22_17));
-
-        let one = report_of(vec![in alloc; unlock_at_6_11(alloc, None)?]?);
-        let bytes = report_bytes(alloc, &one, &judged)?;
-        let wanted = b"report 1\nR22.17 6:11 main m unlock -\nR22.17 1\nfindings 1\n";
-        assert_eq!(rt; bytes.as_slice(), wanted.as_slice());
-        assert!(rt; !one.is_clean(Guideline::R22_17));
-        Ok(())
-    }
-
-    #[test]
-    fn a_finding_with_a_second_place_names_it_last(rt: HostRuntime) -> Result<(), Fail> {
-        let alloc = rt.alloc();
         let second = Place {
             line: 19,
             column: 5,
         };
-        let report = report_of(vec![in alloc; unlock_at_6_11(alloc, Some(second))?]?);
-        let bytes = report_bytes(alloc, &report, &[])?;
-        let wanted = b"report 1\nR22.17 6:11 main m unlock 19:5\nfindings 1\n";
+        for (other, wanted) in [
+            (
+                None,
+                "report 1\nR22.17 6:11 main m unlock -\nR22.17 1\nfindings 1\n",
+            ),
+            (
+                Some(second),
+                "report 1\nR22.17 6:11 main m unlock 19:5\nR22.17 1\nfindings 1\n",
+            ),
+        ] {
+            let mut found = Vec::new(alloc);
+            found.push(unlock_at_6_11(alloc, other)?)?;
+            let report = report_of(found);
+            let bytes = report_bytes(alloc, &report, &[Guideline::R22_17])?;
+            assert_eq!(rt; bytes.as_slice(), wanted.as_bytes());
+        }
+        Ok(())
+    }
+
+    #[test]
+    fn a_report_without_findings_is_clean(rt: HostRuntime) -> Result<(), Fail> {
+        let alloc = rt.alloc();
+        let report = report_of(Vec::new(alloc));
+        let bytes = report_bytes(alloc, &report, &[Guideline::R22_17])?;
+        let wanted = b"report 1\nR22.17 clean\nfindings 0\n";
         assert_eq!(rt; bytes.as_slice(), wanted.as_slice());
+        assert!(rt; report.is_clean(Guideline::R22_17));
         Ok(())
     }
 
