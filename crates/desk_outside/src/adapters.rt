@@ -64,19 +64,25 @@ impl<R: rt::Files<File = File> + Drop> Files for StdFiles<R> {
         if self.faults == u64::MAX {
             return Err(OpenStop::Failed);
         }
-        match File::open(&self.rt, name) {
+        match open_file(&self.rt, name) {
             Ok(file) => {
                 self.current = Some(file);
                 Ok(())
             }
-            Err(error) => {
-                if error.kind() == ErrorKind::OutOfMemory {
-                    return Err(OpenStop::Memory);
-                }
+            Err(OpenStop::Memory) => Err(OpenStop::Memory),
+            Err(OpenStop::Failed) => {
                 self.faults += 1;
                 Err(OpenStop::Failed)
             }
         }
+    }
+}
+
+fn open_file<R: rt::Files<File = File>>(rt: &R, name: &str) -> Result<File, OpenStop> {
+    match File::open(rt, name) {
+        Ok(file) => Ok(file),
+        Err(error) if error.kind() == ErrorKind::OutOfMemory => Err(OpenStop::Memory),
+        Err(_) => Err(OpenStop::Failed),
     }
 }
 
