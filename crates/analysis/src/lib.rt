@@ -1,7 +1,7 @@
 //! The whole analysis: from a text to its report, with the promise that a silent report is kept by every run.
 #![tactic(auto)]
 
-mod analyse;
+mod checker;
 mod findings;
 mod form;
 mod laws;
@@ -10,5 +10,8 @@ mod position;
 mod program;
 mod reading;
 
-pub use position::Position;
+pub use checker::analyse;
+pub use laws::{
+    first_fault_is_one, silence_is_sound, some_run_breaks, some_run_returns, supported_has_no_fault,
+};
 pub use program::{Call, Operation};

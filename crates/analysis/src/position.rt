@@ -1,6 +1,6 @@
 /// How far a text of the form has been read: what stands directly before the next word.
 #[derive(Clone, Copy, Debug, PartialEq, Eq)]
-pub enum Position {
+pub(crate) enum Position {
     /// Whole declarations.
     Declarations,
     /// `static`

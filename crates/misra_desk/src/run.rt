@@ -1,0 +1,155 @@
+ghost use Rattle.std.specs.Prelude.{◌≡◌, ◌≢◌, ◌≤◌, ◌⊎◌, ℕ, List, [], ◌++◌, take, None, Some, IfSome, IfOk, IsErrOf};
+ghost use Rattle.std.specs.Io.KnownBytes.{Appends};
+ghost use Rattle.misra_base.specs.Reports.{IsSilent};
+ghost use Rattle.misra_base.specs.declared.guideline.Guideline.TheVariants.{R22_17};
+ghost use Rattle.desk_outside.specs.Causes.{Rose, HasCause};
+ghost use Rattle.desk_outside.specs.Devices.{contents_of};
+ghost use Rattle.analysis.specs.Form.{Program};
+ghost use Rattle.analysis.specs.Faults.{IsSupportedAs};
+ghost use Rattle.analysis.specs.Findings.{findings_of};
+ghost use Rattle.analysis.specs.Step.{Choice};
+ghost use Rattle.analysis.specs.Runs.{IsRun, Breaks};
+ghost use Rattle.misra_desk.specs.Commands.{texts_of, file_of as file_asked};
+ghost use Rattle.misra_desk.specs.Answers.{IsAnswer, WritesAnswer, WritesFront, usage_line, file_fault_line, memory_line};
+
+use crate::answer::{Answer, answer_to};
+use crate::command::file_of;
+use analysis::silence_is_sound;
+use desk_outside::{Files, OpenStop, ReadStop, Sink, WriteStop, read_up_to, write_all};
+use std::alloc::Global;
+
+/// One byte more than a text may have: a file is read no further.
+const MOST_BYTES: usize = 262_145;
+
+const USAGE: &[u8] =
+    b"usage: check FILE, plan FILE PROJECT, summary PROJECT, serve COUNT, demo NUMBER\n";
+
+const FILE_FAULT_LINE: &[u8] = b"file fault\n";
+
+const MEMORY_LINE: &[u8] = b"out of memory\n";
+
+const NO_FORM: u8 = 3;
+
+const FILE_FAULT: u8 = 4;
+
+const OUTPUT_FAULT: u8 = 5;
+
+const NO_MEMORY: u8 = 8;
+
+/// Does what the words ask, and answers the status that the program ends with: 0 for a text without
+/// a finding, 1 with findings, 2 for a text that is refused, 3 where the words are no form, 4 for a
+/// fault of the files, 5 for one of the output, 8 for want of memory.
+pub fn run<F: Files, O: Sink>(alloc: Global, words: &[String], files: &mut F, out: &mut O) -> u8
+    ensures statuses { (result ≤ 5) ⊎ (result ≡ 8) }
+
+    // 3 comes exactly where the words are no form, unless the usage line meets a fault or no memory.
+    ensures no_form { result ≡ 3 → file_asked (texts_of words.now) ≡ None }
+    ensures usage { file_asked (texts_of words.now) ≡ None → (result ≡ 3) ⊎ (result ≡ 5) ⊎ (result ≡ 8) }
+
+    // 4 comes exactly where the count of the files rose, and 5 only where that of the output rose.
+    ensures files { result ≡ 4 → Rose (F.faults files.old) (F.faults files.new) }
+    ensures files_stay { result ≢ 4 → F.faults files.new ≡ F.faults files.old }
+    ensures output { result ≡ 5 → Rose (O.faults out.old) (O.faults out.new) }
+    ensures output_stays { result ≤ 3 → O.faults out.new ≡ O.faults out.old }
+
+    // 0, 1 and 2 come with the whole answer to the text, which the file has up to its end or one byte too many.
+    ensures answer { (name : List ℕ) → file_asked (texts_of words.now) ≡ Some name → IfSome (contents_of (F.named files.old) name)
+        (λ bytes. result ≤ 2 → WritesAnswer (take 262145 bytes) result (O.written out.old) (O.written out.new)) }
+
+    // Before a fault or want of memory a front of the answer was written, and then the line of the status.
+    ensures front { (name : List ℕ) → file_asked (texts_of words.now) ≡ Some name → IfSome (contents_of (F.named files.old) name)
+        (λ bytes. ((result ≡ 4) → WritesFront (take 262145 bytes) file_fault_line (O.written out.old) (O.written out.new))
+        × ((result ≡ 5) → WritesFront (take 262145 bytes) [] (O.written out.old) (O.written out.new))
+        × ((result ≡ 8) → WritesFront (take 262145 bytes) memory_line (O.written out.old) (O.written out.new))) }
+    ensures usage_line { file_asked (texts_of words.now) ≡ None → ((result ≡ 3) → Appends (O.written out.old) (O.written out.new) usage_line)
+        × ((result ≡ 5) → (n : ℕ) × Appends (O.written out.old) (O.written out.new) (take n usage_line))
+        × ((result ≡ 8) → (n m : ℕ) × Appends (O.written out.old) (O.written out.new) (take n usage_line ++ take m memory_line)) }
+
+    // Where the report of the text has no finding of Rule 22.17, no step of any run of the text breaks it.
+    ensures silence { (name : List ℕ) → file_asked (texts_of words.now) ≡ Some name → IfSome (contents_of (F.named files.old) name)
+        (λ bytes. (p : Program) → IsSupportedAs (take 262145 bytes) p → IsSilent R22_17 (findings_of p)
+        → (steps : List Choice) → IsRun p steps → ¬ (Breaks R22_17 p steps)) }
+{
+    silence_is_sound();
+    match file_of(words) {
+        Some(name) => check(alloc, name, files, out),
+        None => match write_all(out, USAGE) {
+            Ok(()) => NO_FORM,
+            Err(WriteStop::Failed) => OUTPUT_FAULT,
+            Err(WriteStop::Memory) => {
+                put_line(out, MEMORY_LINE);
+                NO_MEMORY
+            }
+        },
+    }
+}
+
+/// Judges the file of this name, with the clauses of `run`.
+fn check<F: Files, O: Sink>(alloc: Global, name: &str, files: &mut F, out: &mut O) -> u8
+    ensures statuses { (result ≤ 2) ⊎ (result ≡ 4) ⊎ (result ≡ 5) ⊎ (result ≡ 8) }
+    ensures files { result ≡ 4 → Rose (F.faults files.old) (F.faults files.new) }
+    ensures files_stay { result ≢ 4 → F.faults files.new ≡ F.faults files.old }
+    ensures output { result ≡ 5 → Rose (O.faults out.old) (O.faults out.new) }
+    ensures output_stays { result ≤ 2 → O.faults out.new ≡ O.faults out.old }
+    ensures answer { IfSome (contents_of (F.named files.old) name.now)
+        (λ bytes. result ≤ 2 → WritesAnswer (take 262145 bytes) result (O.written out.old) (O.written out.new)) }
+    ensures front { IfSome (contents_of (F.named files.old) name.now)
+        (λ bytes. ((result ≡ 4) → WritesFront (take 262145 bytes) file_fault_line (O.written out.old) (O.written out.new))
+        × ((result ≡ 5) → WritesFront (take 262145 bytes) [] (O.written out.old) (O.written out.new))
+        × ((result ≡ 8) → WritesFront (take 262145 bytes) memory_line (O.written out.old) (O.written out.new))) }
+{
+    match answer_to_file(alloc, name, files) {
+        Ok(answer) => write_answer(out, &answer),
+        Err(ReadStop::Failed) => {
+            put_line(out, FILE_FAULT_LINE);
+            FILE_FAULT
+        }
+        Err(ReadStop::Memory) => {
+            put_line(out, MEMORY_LINE);
+            NO_MEMORY
+        }
+    }
+}
+
+/// The answer to the text of a file.
+fn answer_to_file<F: Files>(alloc: Global, name: &str, files: &mut F) -> Result<Answer, ReadStop>
+    ensures answer { IfOk result (λ answer. IfSome (contents_of (F.named files.old) name.now) (λ bytes. IsAnswer (take 262145 bytes) answer.bytes.items answer.status)) }
+    ensures status { IfOk result (λ answer. answer.status ≤ 2) }
+    ensures cause { HasCause ReadStop.Failed (F.faults files.old) (F.faults files.new) result }
+    ensures memory { IsErrOf result ReadStop.Memory → F.faults files.new ≡ F.faults files.old }
+{
+    match files.open(name) {
+        Ok(()) => {}
+        Err(OpenStop::Failed) => return Err(ReadStop::Failed),
+        Err(OpenStop::Memory) => return Err(ReadStop::Memory),
+    }
+    let text = read_up_to(alloc, files, MOST_BYTES)?;
+    Ok(answer_to(alloc, &text)?)
+}
+
+/// Writes an answer, and gives its status where all of it was written.
+fn write_answer<O: Sink>(out: &mut O, answer: &Answer) -> u8
+    requires { answer.now.status ≤ 2 }
+    ensures statuses { (result ≡ answer.now.status) ⊎ (result ≡ 5) ⊎ (result ≡ 8) }
+    ensures output { result ≡ 5 → Rose (O.faults out.old) (O.faults out.new) }
+    ensures output_stays { result ≤ 2 → O.faults out.new ≡ O.faults out.old }
+    ensures whole { result ≤ 2 → Appends (O.written out.old) (O.written out.new) answer.now.bytes.items }
+    ensures part { result ≡ 5 → (n : ℕ) × Appends (O.written out.old) (O.written out.new) (take n answer.now.bytes.items) }
+    ensures memory { result ≡ 8 → (n m : ℕ) × Appends (O.written out.old) (O.written out.new) (take n answer.now.bytes.items ++ take m memory_line) }
+{
+    match write_all(out, &answer.bytes) {
+        Ok(()) => answer.status,
+        Err(WriteStop::Failed) => OUTPUT_FAULT,
+        Err(WriteStop::Memory) => {
+            put_line(out, MEMORY_LINE);
+            NO_MEMORY
+        }
+    }
+}
+
+/// Writes the line of a status. That it fails or finds no memory changes nothing any more.
+fn put_line<O: Sink>(out: &mut O, line: &[u8])
+    ensures { (n : ℕ) × Appends (O.written out.old) (O.written out.new) (take n line.now) }
+{
+    let _ = write_all(out, line);
+}
