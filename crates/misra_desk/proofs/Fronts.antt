@@ -1,0 +1,39 @@
+-- What was written before a fault is a front of the answer.
+use Rattle.std.proofs.Common.{◌≡◌, ◌≤◌, ◌⊎◌, inl, inr, ℕ, List, [], ◌++◌, length, take, append-nil, None, Some, IfSome, Result, Ok, Err, OnOk, OnErr, refl, sym, subst, ap, ◌∙◌, arith}
+use Rattle.std.proofs.Math.Seq.{take-length}
+use Rattle.std.specs.declared.option.Option.{Option}
+use Rattle.std.specs.Io.KnownBytes.{Appends}
+use Rattle.misra_desk.specs.Answers.{IsAnswer, WritesFront, file_fault_line, memory_line}
+
+-- all of a line, or after an error the first of it
+pub wrote_some : {E : Type 0} (result : Result (Unit {0}) E) (old new : Option (List ℕ)) (line : List ℕ) → OnOk result (Appends old new line)
+    → OnErr result ((n : ℕ) × Appends old new (take n line)) → (n : ℕ) × Appends old new (take n line)
+wrote_some (Ok u) old new line whole part = (length line, rw take-length whole)
+wrote_some (Err e) old new line whole part = part
+
+-- the fronts that go with the statuses 4, 5 and 8
+abbrev pub Fronts : List ℕ → ℕ → Option (List ℕ) → Option (List ℕ) → Type 0
+Fronts text result old new =
+    ((result ≡ 4) → WritesFront text file_fault_line old new) × ((result ≡ 5) → WritesFront text [] old new) × ((result ≡ 8) → WritesFront text memory_line old new)
+
+pub fronts_of_answer : (contents old new : Option (List ℕ)) (bytes : List ℕ) (status result : ℕ) → IfSome contents (λ all. IsAnswer (take 262145 all) bytes status)
+    → status ≤ 2 → (result ≡ status) ⊎ (result ≡ 5) ⊎ (result ≡ 8) → (result ≡ 5 → (n : ℕ) × Appends old new (take n bytes))
+    → (result ≡ 8 → (n m : ℕ) × Appends old new (take n bytes ++ take m memory_line)) → IfSome contents (λ all. Fronts (take 262145 all) result old new)
+fronts_of_answer None old new bytes status result answer low ends part memory = tt
+fronts_of_answer (Some all) old new bytes status result answer low ends part memory =
+    (
+      λ e. absurd (not_four ends e),
+      λ e. let p = part e in (take p.0 bytes, 0, inr (bytes, status, p.0, answer, refl), rw append-nil p.1),
+      λ e. let p = memory e in (take p.0 bytes, p.1, inr (bytes, status, p.0, answer, refl), p.2),
+    )
+  where
+    not_four : (result ≡ status) ⊎ (result ≡ 5) ⊎ (result ≡ 8) → result ≡ 4 → ⊥
+    not_four ends e = grind arith
+
+pub front_of_file_fault : (contents old new : Option (List ℕ)) → (n : ℕ) × Appends old new (take n file_fault_line) → IfSome contents (λ all. Fronts (take 262145 all) 4 old new)
+front_of_file_fault None old new wrote = tt
+front_of_file_fault (Some all) old new wrote = (λ e. ([], wrote.0, inl refl, wrote.1), λ e. absurd (omega (arith, e)), λ e. absurd (omega (arith, e)))
+
+pub front_of_memory : (contents old new : Option (List ℕ)) → (n : ℕ) × Appends old new (take n memory_line) → IfSome contents (λ all. Fronts (take 262145 all) 8 old new)
+front_of_memory None old new wrote = tt
+front_of_memory (Some all) old new wrote = (λ e. absurd (omega (arith, e)), λ e. absurd (omega (arith, e)), λ e. ([], wrote.0, inl refl, wrote.1))
