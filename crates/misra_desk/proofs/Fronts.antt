@@ -20,12 +20,11 @@ pub fronts_of_answer : (contents old new : Option (List ℕ)) (bytes : List ℕ)
     → status ≤ 2 → (result ≡ status) ⊎ (result ≡ 5) ⊎ (result ≡ 8) → (result ≡ 5 → (n : ℕ) × Appends old new (take n bytes))
     → (result ≡ 8 → (n m : ℕ) × Appends old new (take n bytes ++ take m memory_line)) → IfSome contents (λ all. Fronts (take 262145 all) result old new)
 fronts_of_answer None old new bytes status result answer low ends part memory = tt
-fronts_of_answer (Some all) old new bytes status result answer low ends part memory =
-    (
-      λ e. absurd (not_four ends e),
-      λ e. let p = part e in (take p.0 bytes, 0, inr (bytes, status, p.0, answer, refl), rw append-nil p.1),
-      λ e. let p = memory e in (take p.0 bytes, p.1, inr (bytes, status, p.0, answer, refl), p.2),
-    )
+fronts_of_answer (Some all) old new bytes status result answer low ends part memory = (
+  λ e. absurd (not_four ends e),
+  λ e. let p = part e in (take p.0 bytes, 0, inr (bytes, status, p.0, answer, refl), rw append-nil p.1),
+  λ e. let p = memory e in (take p.0 bytes, p.1, inr (bytes, status, p.0, answer, refl), p.2),
+)
   where
     not_four : (result ≡ status) ⊎ (result ≡ 5) ⊎ (result ≡ 8) → result ≡ 4 → ⊥
     not_four ends e = grind arith

@@ -25,3 +25,6 @@ fn main(rt: HostRuntime) -> ExitCode {
     let mut files = StdFiles::new(rt);
     ExitCode::from(run::run(alloc, &words, &mut files, &mut out))
 }
+
+#[cfg(test)]
+mod tests;
