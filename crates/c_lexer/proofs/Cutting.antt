@@ -1,5 +1,5 @@
 -- How the tokens of what is left go on behind a blank or a token.
-use Rattle.std.proofs.Common.{◌≡◌, ◌≤◌, ◌<◌, ◌+◌, ◌-◌, ℕ, suc, zero, List, [], ◌∷◌, ◌++◌, Bool, true, false, cond, length, take, drop, get_or, None, Some, codes, nat_lt, slice_get, lit<, append_assoc, append-nil, refl, sym, subst, ap, ◌∙◌, arith}
+use Rattle.std.proofs.Common.{◌≡◌, ◌≤◌, ◌<◌, ◌+◌, ◌-◌, ℕ, suc, zero, List, [], ◌∷◌, ◌++◌, true, false, length, take, drop, get_or, None, Some, codes, nat_lt, slice_get, lit<, append_assoc, append-nil, refl, sym, subst, ap, ◌∙◌, arith}
 use Rattle.std.proofs.lemmas.Grind.{common_steps}
 use Rattle.std.proofs.lemmas.Bool.{le-ltb}
 use Rattle.std.proofs.lemmas.Option.{slice_get_past}
@@ -11,7 +11,7 @@ use Rattle.c_lexer.specs.declared.token.Token.{Token}
 use Rattle.c_lexer.specs.Bytes.{is_blank}
 use Rattle.c_lexer.specs.Positions.{next_place, place_after, first_place}
 use Rattle.c_lexer.specs.Limits.{StopsBy, limit_fault}
-use Rattle.c_lexer.specs.Scanning.{GoesOn, IsTokenTooMany, MeetsLimit}
+use Rattle.c_lexer.specs.Scanning.{GoesOn, MeetsLimit}
 use Rattle.c_lexer.specs.Tokens.{tokens_from, token_length, token_class, token_from, header_length, tokens_of}
 
 tokens_at : (n a b : ℕ) (p : Place) (bs : List ℕ) → a ≡ b → tokens_from n a p bs ≡ tokens_from n b p bs
