@@ -1,5 +1,5 @@
 -- One more word: what was read stays sound, and its words are those before and this one.
-use Rattle.std.proofs.Common.{◌≡◌, ◌≤◌, ◌<◌, ◌+◌, ℕ, suc, zero, Bool, true, false, cond, ◌&&◌, ◌||◌, not, List, [], ◌∷◌, ◌++◌, length, map, flat_map, codes, nat_lt, get_or, Option, Some, None, option_map, unwrap_or, append_assoc, append-nil, length-append, refl, sym, subst, ap, ◌∙◌, arith}
+use Rattle.std.proofs.Common.{◌≡◌, ◌<◌, ℕ, suc, zero, Bool, true, false, cond, ◌&&◌, ◌||◌, not, List, [], ◌∷◌, ◌++◌, length, map, flat_map, codes, nat_lt, get_or, Option, Some, None, option_map, append_assoc, append-nil, length-append, refl, sym, subst, ap, ◌∙◌, arith}
 use Rattle.std.proofs.lemmas.Bool.{ltb-true}
 use Rattle.std.proofs.lemmas.List.{map-append}
 use Rattle.std.proofs.lemmas.List.Quantifiers.{position-Some}
@@ -15,7 +15,7 @@ use Rattle.analysis.specs.declared.position.Position.{Position}
 use Rattle.analysis.specs.declared.position.Position.TheVariants.{Declarations, Static, MutexType, Named, Int, Main, ParametersOpened, Parameters, ParametersClosed, Statements, CastOpened, CastType, Cast, Called, ArgumentsOpened, Ampersand, Argument, Comma, Kind, ArgumentsClosed, Return, Zero, Returned, End}
 use Rattle.analysis.specs.Form.{declaration, called_name, last_arguments, call_words, opening_words, is_declared, is_called_name, AreDeclarable, CallDeclared}
 use Rattle.analysis.specs.Reading.{Reading, expect, next_position, operation_of, number_of, step_at}
-use Rattle.analysis.proofs.Spelled.{declarations_of, statements_of, called_part, argument_part, spelled_at, whole_at, part_at, places_at, HoldsAtPosition, IsSound, IsNaming, IsNew}
+use Rattle.analysis.proofs.Spelled.{declarations_of, statements_of, called_part, argument_part, spelled_at, whole_at, part_at, places_at, HoldsAtPosition, IsSound}
 
 -- the place of a word that is a called name
 abbrev pub called_at : List ℕ → Place → List Place

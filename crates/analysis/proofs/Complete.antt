@@ -1,9 +1,9 @@
 -- The words of each program of the form are read to their end.
-use Rattle.std.proofs.Common.{◌≡◌, ◌≤◌, ◌<◌, ◌+◌, ℕ, suc, zero, Bool, true, false, cond, not, ◌&&◌, ◌||◌, List, [], ◌∷◌, ◌++◌, length, map, flat_map, codes, nat_lt, get_or, Option, Some, None, option_map, option_and_then, append_assoc, append-nil, length-append, refl, sym, subst, ap, ◌∙◌, arith}
+use Rattle.std.proofs.Common.{◌≡◌, ◌≤◌, ◌<◌, ◌+◌, ℕ, suc, zero, Bool, true, false, cond, not, ◌&&◌, ◌||◌, List, [], ◌∷◌, ◌++◌, length, map, flat_map, codes, nat_lt, get_or, Option, Some, None, option_map, option_and_then, append_assoc, append-nil, length-append, refl, sym, ap, ◌∙◌, arith}
 use Rattle.std.proofs.lemmas.Bool.{lt-ltb}
 use Rattle.std.proofs.lemmas.List.{map-append}
 use Rattle.std.proofs.lemmas.List.Folds.{list_any-append}
-use Rattle.std.specs.List.{list_any, position, position_or_len}
+use Rattle.std.specs.List.{position_or_len}
 use Rattle.std.specs.Str.{bytes_eq}
 use Rattle.std.specs.Cmp.Lexicographic.{nat_list_eq_equiv}
 use Rattle.misra_base.specs.declared.place.Place.{Place}
@@ -15,9 +15,9 @@ use Rattle.analysis.specs.declared.program.Operation.{Operation}
 use Rattle.analysis.specs.declared.program.Operation.TheVariants.{Init, Lock, Unlock}
 use Rattle.analysis.specs.declared.program.Call.{Call}
 use Rattle.analysis.specs.declared.position.Position.{Position}
-use Rattle.analysis.specs.declared.position.Position.TheVariants.{Declarations, Static, MutexType, Named, Int, Main, ParametersOpened, Parameters, ParametersClosed, Statements, CastOpened, CastType, Cast, Called, ArgumentsOpened, Ampersand, Argument, Comma, Kind, ArgumentsClosed, Return, Zero, Returned, End}
-use Rattle.analysis.specs.Form.{Program, declaration, called_name, call_words, opening_words, closing_words, words_of, is_declared, AreDeclarable, CallDeclared, IsOfForm}
-use Rattle.analysis.specs.Reading.{Reading, opening_reading, expect, next_position, operation_of, number_of, with_position, step_at, step, goes}
+use Rattle.analysis.specs.declared.position.Position.TheVariants.{Declarations, MutexType, Named, Statements, Cast, Called, Ampersand, Argument, ArgumentsClosed, End}
+use Rattle.analysis.specs.Form.{Program, declaration, call_words, opening_words, closing_words, words_of, is_declared, AreDeclarable, CallDeclared, IsOfForm}
+use Rattle.analysis.specs.Reading.{Reading, opening_reading, next_position, operation_of, number_of, step_at, step, goes}
 
 -- ---- reading without places
 

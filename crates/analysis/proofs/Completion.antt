@@ -1,23 +1,22 @@
 -- What was read is the beginning of some text of the form.
-use Rattle.std.proofs.Common.{◌≡◌, ◌≢◌, ◌≤◌, ◌<◌, ◌+◌, ℕ, suc, zero, Bool, true, false, cond, ◌||◌, List, [], ◌∷◌, ◌++◌, length, replicate, flat_map, codes, get_or, append_assoc, append-nil, length-append, eq-eqb, refl, sym, subst, ap, ◌∙◌, arith}
+use Rattle.std.proofs.Common.{◌≡◌, ◌≢◌, ◌<◌, ◌+◌, ℕ, true, false, List, [], ◌∷◌, ◌++◌, length, replicate, flat_map, codes, get_or, append_assoc, append-nil, length-append, eq-eqb, refl, sym, ap, ◌∙◌, arith}
 use Rattle.std.proofs.lemmas.Grind.{flat_map-append}
 use Rattle.std.proofs.lemmas.List.{length-replicate}
 use Rattle.std.proofs.lemmas.List.Folds.{prefix_len-replicate}
-use Rattle.std.specs.List.{list_any, prefix_len}
+use Rattle.std.specs.List.{prefix_len}
 use Rattle.std.specs.Str.{bytes_eq}
 use Rattle.std.specs.Cmp.Lexicographic.{unequal}
 use Rattle.std.specs.Prelude.{nat_eq}
 use Rattle.c_lexer.specs.Bytes.{is_word_byte}
 use Rattle.c_lexer.specs.Positions.{first_place}
 use Rattle.c_lexer.specs.Identifiers.{reserved_text, is_reserved, is_identifier}
-use Rattle.analysis.specs.declared.program.Operation.{Operation}
-use Rattle.analysis.specs.declared.program.Operation.TheVariants.{Init, Lock, Unlock}
+use Rattle.analysis.specs.declared.program.Operation.TheVariants.{Lock}
 use Rattle.analysis.specs.declared.program.Call.{Call}
 use Rattle.analysis.specs.declared.position.Position.{Position}
 use Rattle.analysis.specs.declared.position.Position.TheVariants.{Declarations, Static, MutexType, Named, Int, Main, ParametersOpened, Parameters, ParametersClosed, Statements, CastOpened, CastType, Cast, Called, ArgumentsOpened, Ampersand, Argument, Comma, Kind, ArgumentsClosed, Return, Zero, Returned, End}
-use Rattle.analysis.specs.Form.{Program, declaration, last_arguments, call_words, opening_words, closing_words, words_of, is_declared, AreDeclarable, CallDeclared, IsOfForm, IsViable}
+use Rattle.analysis.specs.Form.{declaration, last_arguments, call_words, opening_words, closing_words, is_declared, IsViable}
 use Rattle.analysis.specs.Reading.{Reading}
-use Rattle.analysis.proofs.Spelled.{declarations_of, statements_of, called_part, argument_part, spelled_at, part_at, IsSound, IsNew}
+use Rattle.analysis.proofs.Spelled.{declarations_of, statements_of, spelled_at, part_at, IsSound, IsNew}
 use Rattle.analysis.proofs.Advance.{declarable_more, declared_more}
 
 -- ---- a name that is not declared yet

@@ -1,11 +1,11 @@
 -- A text is supported or has one first fault.
-use Rattle.std.proofs.Common.{◌≡◌, ◌≤◌, ◌<◌, ◌+◌, ◌⊎◌, inl, inr, ℕ, List, ◌++◌, length, take, drop, codes, append_assoc, Option, Some, None, refl, sym, ap, ◌∙◌, arith}
+use Rattle.std.proofs.Common.{◌≡◌, ◌≤◌, ◌<◌, ◌+◌, ◌⊎◌, inl, inr, ℕ, List, ◌++◌, length, take, drop, codes, append_assoc, Option, Some, None, sym, ap, ◌∙◌, arith}
 use Rattle.std.proofs.lemmas.Grind.{common_steps}
 use Rattle.std.proofs.lemmas.List.{take-append-drop}
 use Rattle.misra_base.specs.declared.refusal.Refusal.{Refusal}
 use Rattle.c_lexer.specs.Limits.{limit_fault}
 use Rattle.analysis.specs.Form.{Program, words_of, words_in, IsViable, LeavesFormAt}
-use Rattle.analysis.specs.Faults.{IsSupportedAs, IsFirstFault, IsFaultBehind, IsNotBuilt, place_of}
+use Rattle.analysis.specs.Faults.{IsSupportedAs, IsFirstFault, IsFaultBehind, place_of}
 
 take-take-le : (j k : ℕ) (xs : List (List ℕ)) → j ≤ k → take j (take k xs) ≡ take j xs
 take-take-le j k xs less = grind (arith, common_steps)

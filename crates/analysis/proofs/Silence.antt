@@ -1,5 +1,5 @@
 -- Where no unlock is found, no run unlocks a mutex that is not owned: one induction over runs.
-use Rattle.std.proofs.Common.{◌≡◌, ◌≢◌, ◌≤◌, ◌<◌, ◌+◌, ◌-◌, ◌⊎◌, inl, inr, ℕ, suc, zero, Bool, true, false, cond, not, ◌&&◌, ◌||◌, nat_eq, nat_lt, min, List, [], ◌∷◌, ◌++◌, map, All, eq-eqb, refl, sym, subst, ap, ◌∙◌, arith}
+use Rattle.std.proofs.Common.{◌≡◌, ◌≢◌, ◌≤◌, ◌+◌, ◌-◌, ◌⊎◌, inl, inr, ℕ, Bool, true, false, cond, ◌&&◌, ◌||◌, nat_eq, min, List, [], ◌∷◌, ◌++◌, eq-eqb, refl, sym, subst, ap, ◌∙◌, arith}
 use Rattle.std.proofs.lemmas.Map.Views.{exact_unsigned_eq}
 use Rattle.std.proofs.lemmas.List.Elements.{recursion_from_All}
 use Rattle.std.specs.List.{AllByRecursion}
@@ -10,12 +10,12 @@ use Rattle.analysis.specs.declared.program.Operation.{Operation}
 use Rattle.analysis.specs.declared.program.Operation.TheVariants.{Init, Lock, Unlock}
 use Rattle.analysis.specs.declared.program.Call.{Call}
 use Rattle.analysis.specs.Form.{Program}
-use Rattle.analysis.specs.Depths.{Use, Takes, Gives, Leaves, use_by, use_of, depth_step, depths_from, is_possible}
+use Rattle.analysis.specs.Depths.{Use, Takes, Gives, Leaves, use_by, use_of, depth_step, is_possible}
 use Rattle.analysis.specs.Findings.{is_unlock, unlock_finding, found_at, findings_from, findings_of}
-use Rattle.analysis.specs.State.{Action, Calls, Returns, Control, control_of, Stand, Not_made, Running, Ended, Life, Unmade, Live, Dead, MutexKind, plain_kind, Mutex, State, depth_in, depth_of, opening}
-use Rattle.analysis.specs.Step.{Choice, Request, Inits, Locks, Unlocks, Ends, request_of, is_free_for, may_move, is_undefined, is_out_of_turn, is_too_late, is_unmade, is_live, is_dead, request_by_operation, is_not_owned, is_locked_again, is_broken, locked_by, unlocked, life_after, stand_after, after, Outcome, No_step, Undefined, Does, outcome, outcome_of_request, outcome_of_control, outcome_of_stand, is_only_move, request_of_stand, request_by}
+use Rattle.analysis.specs.State.{Action, Calls, Returns, Control, control_of, Stand, Not_made, Running, Ended, Life, Unmade, Live, Dead, MutexKind, plain_kind, Mutex, State, depth_of, opening}
+use Rattle.analysis.specs.Step.{Choice, Request, Ends, request_of, is_free_for, may_move, is_undefined, is_out_of_turn, is_too_late, is_unmade, is_live, is_dead, request_by_operation, is_not_owned, is_locked_again, is_broken, locked_by, unlocked, life_after, stand_after, after, Outcome, No_step, Undefined, Does, outcome, outcome_of_request, outcome_of_control, outcome_of_stand, is_only_move, request_of_stand, request_by}
 use Rattle.analysis.specs.Runs.{state_after, advanced, HasMeaning, IsStep, IsGoodRun, IsRun, Breaks}
-use Rattle.analysis.proofs.Depth.{either, both, or_first, or_second, this_depth}
+use Rattle.analysis.proofs.Depth.{either, or_first, or_second, this_depth}
 
 absurd_bool : false ≡ true → ⊥
 absurd_bool e = cc

@@ -1,5 +1,5 @@
 -- What the words so far are, and what holds of what was read.
-use Rattle.std.proofs.Common.{◌≡◌, ◌≤◌, ◌<◌, ℕ, Bool, true, false, List, [], ◌∷◌, ◌++◌, length, map, flat_map, codes, get_or, Option, Some, None, unwrap_or}
+use Rattle.std.proofs.Common.{◌≡◌, ◌≤◌, ◌<◌, ℕ, true, false, List, [], ◌∷◌, ◌++◌, length, map, flat_map, codes, get_or, Some, unwrap_or}
 use Rattle.misra_base.specs.declared.place.Place.{Place}
 use Rattle.c_lexer.specs.Identifiers.{is_identifier}
 use Rattle.analysis.specs.declared.program.Operation.TheVariants.{Init}

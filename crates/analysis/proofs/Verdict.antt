@@ -1,20 +1,18 @@
 -- What the reader of a text answers.
-use Rattle.std.proofs.Common.{◌≡◌, ◌≢◌, ◌≤◌, ◌<◌, ◌+◌, ℕ, Bool, true, false, List, ◌++◌, length, take, drop, get_or, slice_get, codes, Option, Some, None, option_and_then, IfOk, IfErr, MatchResult, MatchBool, Result, Ok, Err, refl, sym, subst, ap, ◌∙◌, arith}
+use Rattle.std.proofs.Common.{◌≡◌, ◌≢◌, ◌≤◌, ◌<◌, ◌+◌, ℕ, List, ◌++◌, length, take, drop, get_or, slice_get, codes, Option, Some, None, option_and_then, sym, subst, ap, ◌∙◌, arith}
 use Rattle.std.proofs.lemmas.Grind.{common_steps}
 use Rattle.std.proofs.lemmas.List.{take-append-drop, get_or_default}
 use Rattle.std.proofs.lemmas.Option.{slice_get-get_or, slice_get_past}
-use Rattle.std.proofs.Math.Seq.{take-length}
-use Rattle.misra_base.specs.declared.place.Place.{Place}
 use Rattle.misra_base.specs.declared.refusal.CheckStop.{CheckStop}
 use Rattle.misra_base.specs.declared.refusal.CheckStop.TheVariants.{Refused, Memory}
 use Rattle.c_lexer.specs.declared.token.Token.{Token}
 use Rattle.c_lexer.specs.Positions.{end_place}
 use Rattle.c_lexer.specs.Tokens.{tokens_of, token_text}
 use Rattle.analysis.specs.declared.position.Position.TheVariants.{End}
-use Rattle.analysis.specs.Form.{Program, IsProgramOf, words_in}
+use Rattle.analysis.specs.Form.{Program, IsProgramOf}
 use Rattle.analysis.specs.Reading.{Reading, opening_reading, step, goes}
-use Rattle.analysis.specs.Faults.{IsNotBuilt, StopsAt, place_of, place_or}
-use Rattle.analysis.proofs.Judged.{goes_append, goes_more, leaves_at, leaves_at_end, is_program, only_program}
+use Rattle.analysis.specs.Faults.{IsNotBuilt, StopsAt, place_or}
+use Rattle.analysis.proofs.Judged.{goes_append, goes_more, leaves_at, leaves_at_end, only_program}
 
 -- one more token, as code takes it
 pub goes_step : (text : List ℕ) (s : Reading) (tokens : List Token) (k : ℕ) (d : Token) (word : List ℕ) (o : Option Reading) → k < length tokens

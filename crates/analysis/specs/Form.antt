@@ -2,7 +2,7 @@
 --
 --     text = { "static" "mtx_t" id ";" } "int" "main" "(" "void" ")" "{" { "(" "void" ")" call ";" } "return" "0" ";" "}"
 --     call = "mtx_init" "(" "&" id "," "mtx_plain" ")" | ( "mtx_lock" | "mtx_unlock" ) "(" "&" id ")"
-use Rattle.std.specs.Prelude.{◌≡◌, ◌≤◌, ◌<◌, ◌+◌, ℕ, Bool, true, false, not, ◌&&◌, ◌||◌, ◌==◌, List, [], ◌∷◌, ◌++◌, length, map, filter, flat_map, take, codes, slice_index_or, is_some}
+use Rattle.std.specs.Prelude.{◌≡◌, ◌≤◌, ◌<◌, ◌+◌, ℕ, Bool, true, false, ◌||◌, List, [], ◌∷◌, ◌++◌, length, map, filter, flat_map, take, codes, slice_index_or}
 use Rattle.std.specs.List.{list_any}
 use Rattle.std.specs.Str.{bytes_eq}
 use Rattle.misra_base.specs.declared.place.Place.{Place}

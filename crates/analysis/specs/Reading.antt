@@ -1,5 +1,5 @@
 -- Reading a text of the form word by word.
-use Rattle.std.specs.Prelude.{ℕ, suc, zero, ◌+◌, Bool, not, ◌&&◌, List, [], ◌∷◌, ◌++◌, length, codes, nat_lt, if◌then◌else◌, Option, Some, None, option_map, option_and_then, position}
+use Rattle.std.specs.Prelude.{ℕ, not, ◌&&◌, List, [], ◌∷◌, ◌++◌, length, codes, nat_lt, if◌then◌else◌, Option, Some, None, option_map, option_and_then, position}
 use Rattle.std.specs.Str.{bytes_eq}
 use Rattle.misra_base.specs.declared.place.Place.{Place}
 use Rattle.c_lexer.specs.Positions.{first_place}

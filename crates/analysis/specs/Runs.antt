@@ -1,5 +1,5 @@
 -- Runs: lists of choices, the last first.
-use Rattle.std.specs.Prelude.{◌≡◌, ℕ, true, List, [], ◌∷◌}
+use Rattle.std.specs.Prelude.{◌≡◌, true, List, [], ◌∷◌}
 use Rattle.misra_base.specs.declared.guideline.Guideline.{Guideline}
 use Rattle.analysis.specs.Form.{Program}
 use Rattle.analysis.specs.State.{State, opening}

@@ -1,6 +1,5 @@
 -- Two programs, for tests of the definitions.
-use Rattle.std.specs.Prelude.{ℕ, List, [], ◌∷◌, codes}
-use Rattle.misra_base.specs.declared.place.Place.{Place}
+use Rattle.std.specs.Prelude.{ℕ, [], ◌∷◌, codes}
 use Rattle.analysis.specs.declared.program.Operation.{Operation}
 use Rattle.analysis.specs.declared.program.Operation.TheVariants.{Init, Lock, Unlock}
 use Rattle.analysis.specs.declared.program.Call.{Call}

@@ -1,5 +1,5 @@
 -- The state of a run (C11 5.1.2.4, 7.26).
-use Rattle.std.specs.Prelude.{ℕ, Bool, true, false, ◌==◌, List, [], ◌∷◌, ◌++◌, map, if◌then◌else◌}
+use Rattle.std.specs.Prelude.{ℕ, Bool, false, ◌==◌, List, [], ◌∷◌, ◌++◌, map, if◌then◌else◌}
 use Rattle.analysis.specs.declared.program.Call.{Call}
 use Rattle.analysis.specs.Form.{Program}
 

@@ -1,11 +1,9 @@
 -- A step: one thread moves by one action (C11 7.26.4).
 use Rattle.std.specs.Prelude.{ℕ, ◌+◌, ◌-◌, ℤ, Bool, true, false, not, ◌&&◌, ◌||◌, ◌==◌, nat_lt, List, [], ◌∷◌, if◌then◌else◌}
-use Rattle.std.specs.List.{list_any}
 use Rattle.misra_base.specs.declared.guideline.Guideline.{Guideline}
 use Rattle.misra_base.specs.declared.guideline.Guideline.TheVariants.{R22_14, R22_15, R22_17, R22_18}
 use Rattle.analysis.specs.declared.program.Operation.{Operation}
 use Rattle.analysis.specs.declared.program.Operation.TheVariants.{Init, Lock, Unlock}
-use Rattle.analysis.specs.declared.program.Call.{Call}
 use Rattle.analysis.specs.State.{Action, Calls, Returns, Control, Stand, Not_made, Running, Ended, Life, Unmade, Live, Dead, MutexKind, plain_kind, Mutex, State, depth_in, depth_of}
 
 -- the running thread, the position of its move, and the values where the action may answer one of several

@@ -1,4 +1,4 @@
-use Rattle.std.proofs.Common.{◌≡◌, ◌≤◌, length, MatchBool, sym, arith}
+use Rattle.std.proofs.Common.{arith}
 use Rattle.std.proofs.lemmas.Bool.{MatchBool-at_true, MatchBool-at_false}
 use Rattle.analysis.proofs.Verdict.{goes_step, no_program_here, not_built_at, all_read, not_built_at_end, no_program_at_end, the_program}
 use Rattle.analysis.proofs.Judged.{is_program}

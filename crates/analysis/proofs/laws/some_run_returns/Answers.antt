@@ -1,4 +1,4 @@
-use Rattle.std.proofs.Common.{List, [], ◌∷◌, refl}
+use Rattle.std.proofs.Common.{[], ◌∷◌, refl}
 use Rattle.analysis.specs.State.{opening}
 use Rattle.analysis.specs.Step.{Choice, outcome, after}
 use Rattle.analysis.specs.Runs.{state_after}
