@@ -1,3 +1,4 @@
 mod Cutting
 mod Listed
+mod Longest
 mod Order

@@ -1,4 +1,6 @@
 pub mod Bytes
+pub mod Numbers
+pub mod Punctuators
 pub mod Positions
 pub mod Slices
 pub mod Tokens

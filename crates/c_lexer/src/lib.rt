@@ -3,9 +3,13 @@
 
 mod bytes;
 mod identifiers;
+mod number;
 mod position;
+mod punctuator;
 mod scanner;
 mod token;
+#[cfg(test)]
+mod token_table;
 
 pub use identifiers::is_identifier;
 pub use position::{FIRST_PLACE, place_after};

@@ -1,5 +1,5 @@
 use Rattle.std.proofs.Common.{sym, arith}
-use Rattle.c_lexer.proofs.Cutting.{goes_blank, goes_token, meets}
+use Rattle.c_lexer.proofs.Cutting.{goes_token, meets}
 use Rattle.c_lexer.proofs.scanner.scan_next.Goals as goal
 
 pub returns-then-len-ge-MAX_TOKENS-clause-full : goal.returns-then-len-ge-MAX_TOKENS-clause-full
