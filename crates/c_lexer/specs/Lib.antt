@@ -7,3 +7,5 @@ pub mod Tokens
 pub mod Limits
 pub mod Scanning
 pub mod Identifiers
+pub mod Integers
+pub mod Literals
