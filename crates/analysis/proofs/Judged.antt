@@ -190,3 +190,14 @@ leaves_at_end text s e open_still =
       where
         some_same : {x y : Reading} → Some x ≡ Some y → x ≡ y
         some_same h = cc
+
+-- a text has one program
+pub one_program : (text : List ℕ) (p q : Program) → IsProgramOf text p → IsProgramOf text q → p ≡ q
+one_program text p q a b =
+    let first = only_program text p a in
+    let second = only_program text q b in
+    let same : first.0 ≡ second.0 = some_same (sym first.1 ∙ second.1) in
+    sym first.3 ∙ ap (λ (r : Reading). let x : Program = record { mutexes = r.mutexes; calls = r.calls } in x) same ∙ second.3
+  where
+    some_same : {x y : Reading} → Some x ≡ Some y → x ≡ y
+    some_same h = cc

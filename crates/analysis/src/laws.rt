@@ -4,7 +4,7 @@ ghost use Rattle.std.specs.Prelude.{◌≡◌, true, List, ℕ};
 ghost use Rattle.misra_base.specs.declared.refusal.Refusal.{Refusal};
 ghost use Rattle.misra_base.specs.declared.guideline.Guideline.TheVariants.{R22_17};
 ghost use Rattle.misra_base.specs.Reports.{IsSilent};
-ghost use Rattle.analysis.specs.Form.{Program};
+ghost use Rattle.analysis.specs.Form.{Program, IsProgramOf};
 ghost use Rattle.analysis.specs.Faults.{IsSupportedAs, IsFirstFault};
 ghost use Rattle.analysis.specs.Findings.{findings_of};
 ghost use Rattle.analysis.specs.Step.{Choice};
@@ -15,6 +15,11 @@ ghost use Rattle.analysis.specs.Samples.{unlock_alone, lock_and_unlock};
 /// last step.
 pub fn silence_is_sound()
     ensures { (p : Program) → IsSilent R22_17 (findings_of p) → (run : List Choice) → IsRun p run → ¬ (Breaks R22_17 p run) }
+{}
+
+/// A text has one program.
+pub fn program_is_one()
+    ensures { (text : List ℕ) (p q : Program) → IsProgramOf text p → IsProgramOf text q → p ≡ q }
 {}
 
 /// A supported text has no fault.

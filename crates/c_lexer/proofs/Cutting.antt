@@ -38,7 +38,7 @@ behind_first (suc m) at p b bs some =
     ∙ tokens_at zero (at + 1 + m) (at + suc m) (place_after (next_place p b) (take m bs)) (drop m bs) (omega arith)
 
 pub at_token : (at : ℕ) (p : Place) (rest : List ℕ) → 0 < length rest → is_blank (get_or rest 0 0) ≡ false → 0 < token_length rest
-    → tokens_from zero at p rest ≡ record { class = token_class (get_or rest 0 0); start = at; length = token_length rest; place = p }
+    → tokens_from zero at p rest ≡ record { class = token_class rest; start = at; length = token_length rest; place = p }
     ∷ tokens_from zero (at + token_length rest) (place_after p (take (token_length rest) rest)) (drop (token_length rest) rest)
 at_token at p [] some blank size = absurd (omega (arith, some))
 at_token at p (b ∷ bs) some blank size =
@@ -61,7 +61,7 @@ goes_blank old at p rest some blank = record {
 }
 
 pub goes_token : (old new : List Token) (at n : ℕ) (p : Place) (rest : List ℕ) (token : Token) → 0 < length rest → is_blank (get_or rest 0 0) ≡ false
-    → n ≡ token_length rest → 0 < n → n ≤ length rest → token ≡ record { class = token_class (get_or rest 0 0); start = at; length = n; place = p }
+    → n ≡ token_length rest → 0 < n → n ≤ length rest → token ≡ record { class = token_class rest; start = at; length = n; place = p }
     → new ≡ old ++ token ∷ [] → GoesOn old new at n p rest
 goes_token old new at n p rest token some blank is_n size bound is_token is_new = record {
   some = size;

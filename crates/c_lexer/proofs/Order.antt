@@ -1,5 +1,5 @@
 -- The tokens of a text stand in order.
-use Rattle.std.proofs.Common.{◌≡◌, ◌≤◌, ◌<◌, ◌+◌, ◌-◌, ℕ, suc, zero, Bool, true, false, cond, List, [], ◌∷◌, length, take, drop, All, nat_eq, ◌||◌, refl, sym, ap, arith}
+use Rattle.std.proofs.Common.{◌≡◌, ◌≤◌, ◌<◌, ◌+◌, ◌-◌, ℕ, suc, zero, Bool, true, false, cond, List, [], ◌∷◌, length, take, drop, All, refl, sym, ap, arith}
 use Rattle.std.proofs.lemmas.List.Sums.{prefix_len-le-length}
 use Rattle.std.proofs.lemmas.List.Elements.{All-from_recursion}
 use Rattle.std.specs.List.{prefix_len, AllByRecursion}
@@ -8,10 +8,13 @@ use Rattle.std.specs.Cmp.Lexicographic.{same_text}
 use Rattle.std.proofs.lemmas.List.{length-take}
 use Rattle.misra_base.specs.declared.place.Place.{Place}
 use Rattle.c_lexer.specs.declared.token.Token.{Token}
-use Rattle.c_lexer.specs.Bytes.{is_blank, is_letter, is_digit, is_word_byte, is_number_byte}
+use Rattle.c_lexer.specs.Bytes.{is_blank, is_letter, is_word_byte}
+use Rattle.c_lexer.specs.Numbers.{begins_number, begins_hexadecimal, goes_on_number, number_rest}
+use Rattle.c_lexer.specs.Punctuators.{punctuator_length}
+use Rattle.c_lexer.proofs.Longest.{punctuator_some, punctuator_within}
 use Rattle.c_lexer.specs.Positions.{next_place, first_place}
 use Rattle.c_lexer.specs.Slices.{AreInOrder, IsWithin}
-use Rattle.c_lexer.specs.Tokens.{ampersand_length, token_length, token_from, tokens_from, include_line, ends_line, header_length, tokens_of}
+use Rattle.c_lexer.specs.Tokens.{token_length, token_from, tokens_from, include_line, ends_line, header_length, tokens_of}
 
 record IsCut (n size : ℕ) : Type 0 where
   some : 0 < n
@@ -21,19 +24,23 @@ of_both : (b : Bool) (m n size : ℕ) → IsCut m size → IsCut n size → IsCu
 of_both true m n size p q = p
 of_both false m n size p q = q
 
-ampersand : (bs : List ℕ) → IsCut (ampersand_length bs) (suc (length bs))
-ampersand [] = record { some = omega arith; bound = omega arith }
-ampersand (b ∷ bs) = of_both (nat_eq b 38 || nat_eq b 61) 2 1 (suc (length (b ∷ bs))) (record { some = omega arith; bound = omega arith }) (record { some = omega arith; bound = omega arith })
+number_rest-le : (hexadecimal : Bool) (before : ℕ) (bs : List ℕ) → number_rest hexadecimal before bs ≤ length bs
+number_rest-le hexadecimal before [] = omega arith
+number_rest-le hexadecimal before (b ∷ bs) = here (goes_on_number hexadecimal before b) (number_rest-le hexadecimal b bs)
+  where
+    here : (go : Bool) → number_rest hexadecimal b bs ≤ length bs → cond go (suc (number_rest hexadecimal b bs)) 0 ≤ suc (length bs)
+    here true later = omega (arith, later)
+    here false later = omega arith
 
 -- a token has at least one byte, and no more than are left
 cut : (b : ℕ) (bs : List ℕ) → IsCut (token_length (b ∷ bs)) (suc (length bs))
 cut b bs =
-    let single : IsCut 1 (suc (length bs)) = record { some = omega arith; bound = omega arith } in
-    let other = of_both (nat_eq b 38) (ampersand_length bs) 1 (suc (length bs)) (ampersand bs) single in
-    let number : IsCut (suc (prefix_len is_number_byte bs)) (suc (length bs)) = record { some = omega arith; bound = omega (arith, prefix_len-le-length is_number_byte bs) } in
+    let number : IsCut (suc (number_rest (begins_hexadecimal (b ∷ bs)) b bs)) (suc (length bs)) =
+    record { some = omega arith; bound = omega (arith, number_rest-le (begins_hexadecimal (b ∷ bs)) b bs) } in
     let word : IsCut (suc (prefix_len is_word_byte bs)) (suc (length bs)) = record { some = omega arith; bound = omega (arith, prefix_len-le-length is_word_byte bs) } in
-    let digits = of_both (is_digit b) (suc (prefix_len is_number_byte bs)) (cond (nat_eq b 38) (ampersand_length bs) 1) (suc (length bs)) number other in
-    of_both (is_letter b) (suc (prefix_len is_word_byte bs)) (cond (is_digit b) (suc (prefix_len is_number_byte bs)) (cond (nat_eq b 38) (ampersand_length bs) 1)) (suc (length bs)) word digits
+    let other : IsCut (punctuator_length (b ∷ bs)) (suc (length bs)) =
+    record { some = punctuator_some (b ∷ bs); bound = punctuator_within (b ∷ bs) (omega arith) } in
+    of_both (is_letter b) _ _ (suc (length bs)) word (of_both (begins_number (b ∷ bs)) _ _ (suc (length bs)) number other)
 
 ordered_if : (b : Bool) (from to : ℕ) (xs ys : List Token) → AreInOrder from to xs → AreInOrder from to ys → AreInOrder from to (cond b xs ys)
 ordered_if true from to xs ys p q = p

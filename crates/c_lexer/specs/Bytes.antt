@@ -14,7 +14,3 @@ is_digit b = nat_le 48 b && nat_le b 57
 
 abbrev pub is_word_byte : ℕ → Bool
 is_word_byte b = is_letter b || is_digit b
-
--- a letter, a digit, `_` or a point
-abbrev pub is_number_byte : ℕ → Bool
-is_number_byte b = is_word_byte b || b == 46

@@ -1,7 +1,11 @@
 pub mod Bytes
+pub mod Numbers
+pub mod Punctuators
 pub mod Positions
 pub mod Slices
 pub mod Tokens
 pub mod Limits
 pub mod Scanning
 pub mod Identifiers
+pub mod Integers
+pub mod Literals

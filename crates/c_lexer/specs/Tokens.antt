@@ -1,30 +1,28 @@
 -- The tokens of a text: at each place the longest one.
-use Rattle.std.specs.Prelude.{ℕ, suc, zero, ◌+◌, ◌-◌, Bool, true, ◌||◌, ◌==◌, List, [], ◌∷◌, take, drop, codes, if◌then◌else◌}
+use Rattle.std.specs.Prelude.{ℕ, suc, zero, ◌+◌, ◌-◌, Bool, true, ◌==◌, List, [], ◌∷◌, take, drop, codes, if◌then◌else◌}
 use Rattle.std.specs.List.{prefix_len}
 use Rattle.std.specs.Str.{bytes_eq}
 use Rattle.misra_base.specs.declared.place.Place.{Place}
 use Rattle.c_lexer.specs.declared.token.Token.{Token}
-use Rattle.c_lexer.specs.Bytes.{is_blank, is_letter, is_digit, is_word_byte, is_number_byte}
+use Rattle.c_lexer.specs.Bytes.{is_blank, is_letter, is_word_byte}
+use Rattle.c_lexer.specs.Numbers.{begins_number, begins_hexadecimal, number_rest}
+use Rattle.c_lexer.specs.Punctuators.{punctuator_length}
 use Rattle.c_lexer.specs.Positions.{first_place, next_place}
-
--- `&` and what may go on it: `&&` and `&=` are tokens of their own
-abbrev pub ampersand_length : List ℕ → ℕ
-ampersand_length [] = 1
-ampersand_length (b ∷ bs) = if b == 38 || b == 61 then 2 else 1
 
 -- how many bytes the longest token has that this text begins with; a byte that begins no token counts as one
 abbrev pub token_length : List ℕ → ℕ
 token_length [] = 0
 token_length (b ∷ bs) =
     if is_letter b then suc (prefix_len is_word_byte bs)
-    else (if is_digit b then suc (prefix_len is_number_byte bs) else (if b == 38 then ampersand_length bs else 1))
+    else (if begins_number (b ∷ bs) then suc (number_rest (begins_hexadecimal (b ∷ bs)) b bs) else punctuator_length (b ∷ bs))
 
--- 0 for a word, 1 for a number, 2 for all else
-abbrev pub token_class : ℕ → ℕ
-token_class b = if is_letter b then 0 else (if is_digit b then 1 else 2)
+-- what the longest token is that this text begins with: 0 for a word, 1 for a number, 2 for all else
+abbrev pub token_class : List ℕ → ℕ
+token_class [] = 2
+token_class (b ∷ bs) = if is_letter b then 0 else (if begins_number (b ∷ bs) then 1 else 2)
 
 abbrev pub token_from : ℕ → List ℕ → ℕ → Place → Token
-token_from b bs start place = record { class = token_class b; start = start; length = token_length (b ∷ bs); place = place }
+token_from b bs start place = record { class = token_class (b ∷ bs); start = start; length = token_length (b ∷ bs); place = place }
 
 -- The tokens of a text whose first byte has this offset and this place. The first `inside` bytes belong to what stands before.
 abbrev pub tokens_from : (inside : ℕ) → (start : ℕ) → Place → List ℕ → List Token

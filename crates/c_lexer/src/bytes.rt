@@ -1,6 +1,6 @@
 ghost use Rattle.std.specs.Prelude.{◌≡◌, ◌≤◌, length};
 ghost use Rattle.std.specs.List.{prefix_len};
-ghost use Rattle.c_lexer.specs.Bytes.{is_blank, is_letter, is_digit, is_word_byte, is_number_byte};
+ghost use Rattle.c_lexer.specs.Bytes.{is_blank, is_letter, is_digit, is_word_byte};
 
 /// Space, tab and LF part tokens.
 pub(crate) fn is_blank(byte: u8) -> bool
@@ -29,13 +29,6 @@ pub(crate) fn is_word_byte(byte: u8) -> bool
     is_letter(byte) || is_digit(byte)
 }
 
-/// What goes on a number, signs behind an exponent left out (C11 6.4.8).
-pub(crate) fn is_number_byte(byte: u8) -> bool
-    ensures { result ≡ is_number_byte byte }
-{
-    is_word_byte(byte) || byte == b'.'
-}
-
 /// How many word bytes stand at the front.
 pub(crate) fn word_rest(bytes: &[u8]) -> usize
     ensures value { result ≡ prefix_len is_word_byte bytes.now }
@@ -43,19 +36,6 @@ pub(crate) fn word_rest(bytes: &[u8]) -> usize
 {
     for (i, byte) in bytes.iter().enumerate() {
         if !is_word_byte(*byte) {
-            return i;
-        }
-    }
-    bytes.len()
-}
-
-/// How many bytes at the front go on a number.
-pub(crate) fn number_rest(bytes: &[u8]) -> usize
-    ensures value { result ≡ prefix_len is_number_byte bytes.now }
-    ensures bound { result ≤ length bytes.now }
-{
-    for (i, byte) in bytes.iter().enumerate() {
-        if !is_number_byte(*byte) {
             return i;
         }
     }

@@ -3,11 +3,21 @@
 
 mod bytes;
 mod identifiers;
+mod integer;
+mod literal;
+#[cfg(test)]
+mod literal_table;
+mod number;
 mod position;
+mod punctuator;
 mod scanner;
 mod token;
+#[cfg(test)]
+mod token_table;
 
 pub use identifiers::is_identifier;
+pub use integer::{IntegerLiteral, IntegerType, integer_literal};
+pub use literal::{NumberLiteral, character_literal, number_literal};
 pub use position::{FIRST_PLACE, place_after};
 pub use scanner::{MAX_BYTES, MAX_TOKENS, tokens};
 pub use token::{Token, TokenClass};

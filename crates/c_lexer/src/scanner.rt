@@ -1,11 +1,13 @@
-ghost use Rattle.std.specs.Prelude.{◌≡◌, ◌≤◌, ◌<◌, ◌+◌, ◌^◌, ℕ, length, slice_index, All, MatchResult, IfOk, IfErr};
-ghost use Rattle.c_lexer.specs.Tokens.{header_length, token_length, ampersand_length, token_class, tokens_of};
+ghost use Rattle.std.specs.Prelude.{◌≡◌, ◌≤◌, ◌<◌, ◌+◌, ◌^◌, ℕ, length, All, MatchResult, IfOk, IfErr};
+ghost use Rattle.c_lexer.specs.Tokens.{header_length, token_length, token_class, tokens_of};
 ghost use Rattle.c_lexer.specs.Scanning.{GoesOn, MeetsLimit};
 ghost use Rattle.c_lexer.specs.Slices.{AreInOrder, IsWithin};
 ghost use Rattle.c_lexer.specs.Limits.{StopsBy, limit_fault};
 
-use crate::bytes::{is_blank, is_digit, is_letter, number_rest, word_rest};
+use crate::bytes::{is_blank, is_letter, word_rest};
+use crate::number::{begins_hexadecimal, begins_number, number_rest};
 use crate::position::{FIRST_PLACE, place_after};
+use crate::punctuator::punctuator_length;
 use crate::token::{Token, TokenClass};
 use misra_base::{CheckStop, Name, Place, Refusal};
 use std::alloc::{AllocError, Global};
@@ -104,25 +106,12 @@ fn token_length(rest: &[u8]) -> usize
         [first, more @ ..] => {
             if is_letter(*first) {
                 1 + word_rest(more)
-            } else if is_digit(*first) {
-                1 + number_rest(more)
-            } else if *first == b'&' {
-                ampersand_length(more)
+            } else if begins_number(rest) {
+                1 + number_rest(begins_hexadecimal(rest), *first, more)
             } else {
-                1
+                punctuator_length(rest)
             }
         }
-    }
-}
-
-fn ampersand_length(more: &[u8]) -> usize
-    ensures value { result ≡ ampersand_length more.now }
-    ensures some { 0 < result }
-    ensures bound { result ≤ length more.now + 1 }
-{
-    match more {
-        [b'&' | b'=', ..] => 2,
-        _ => 1,
     }
 }
 
@@ -130,11 +119,11 @@ fn token(rest: &[u8], start: usize, size: usize, place: Place) -> Token
     requires some { 0 < length rest.now }
     requires start { start < 2 ^ 32 }
     requires size { size < 2 ^ 32 }
-    ensures { result ≡ record { class = token_class (slice_index rest.now 0); start = start; length = size; place = place } }
+    ensures { result ≡ record { class = token_class rest.now; start = start; length = size; place = place } }
 {
     let class = if is_letter(rest[0]) {
         TokenClass::Word
-    } else if is_digit(rest[0]) {
+    } else if begins_number(rest) {
         TokenClass::Number
     } else {
         TokenClass::Other

@@ -7,7 +7,7 @@ use misra_base::Place;
 pub enum TokenClass {
     /// A letter or `_`, then letters, digits and `_`.
     Word,
-    /// A digit, and what goes on a number.
+    /// A digit, or a point and a digit, and what goes on a number.
     Number,
     /// A punctuator, or a byte that begins no token.
     Other,
