@@ -1,20 +1,22 @@
 ghost use Rattle.std.specs.Prelude.{◌≡◌, ◌≢◌, ◌≤◌, ◌⊎◌, ℕ, List, [], ◌++◌, take, None, Some, IfSome, IfOk, IsErrOf};
 ghost use Rattle.std.specs.Io.KnownBytes.{Appends};
+ghost use Rattle.misra_base.specs.Lines.{report_bytes, refusal_line};
 ghost use Rattle.misra_base.specs.Reports.{IsSilent};
+ghost use Rattle.misra_base.specs.declared.refusal.Refusal.{Refusal};
 ghost use Rattle.misra_base.specs.declared.guideline.Guideline.TheVariants.{R22_17};
 ghost use Rattle.desk_outside.specs.Causes.{Rose, HasCause};
 ghost use Rattle.desk_outside.specs.Devices.{contents_of};
 ghost use Rattle.analysis.specs.Form.{Program};
-ghost use Rattle.analysis.specs.Faults.{IsSupportedAs};
-ghost use Rattle.analysis.specs.Findings.{findings_of};
+ghost use Rattle.analysis.specs.Faults.{IsSupportedAs, IsFirstFault};
+ghost use Rattle.analysis.specs.Findings.{judged, findings_of};
 ghost use Rattle.analysis.specs.Step.{Choice};
 ghost use Rattle.analysis.specs.Runs.{IsRun, Breaks};
 ghost use Rattle.misra_desk.specs.Commands.{texts_of, file_of as file_asked};
-ghost use Rattle.misra_desk.specs.Answers.{IsAnswer, WritesAnswer, WritesFront, usage_line, file_fault_line, memory_line};
+ghost use Rattle.misra_desk.specs.Answers.{status_of, IsAnswer, WritesAnswer, WritesFront, usage_line, file_fault_line, memory_line};
 
 use crate::answer::{Answer, answer_to};
 use crate::command::file_of;
-use analysis::silence_is_sound;
+use analysis::{first_fault_is_one, program_is_one, silence_is_sound, supported_has_no_fault};
 use desk_outside::{Files, OpenStop, ReadStop, Sink, WriteStop, read_up_to, write_all};
 use std::alloc::Global;
 
@@ -56,6 +58,16 @@ pub fn run<F: Files, O: Sink>(alloc: Global, words: &[String], files: &mut F, ou
     ensures answer { (name : List ℕ) → file_asked (texts_of words.now) ≡ Some name → IfSome (contents_of (F.named files.old) name)
         (λ bytes. result ≤ 2 → WritesAnswer (take 262145 bytes) result (O.written out.old) (O.written out.new)) }
 
+    // A supported text has its report, with 0 where that has no finding and else 1.
+    ensures supported { (name : List ℕ) → file_asked (texts_of words.now) ≡ Some name → IfSome (contents_of (F.named files.old) name)
+        (λ bytes. (p : Program) → IsSupportedAs (take 262145 bytes) p → result ≤ 2
+        → (result ≡ status_of (findings_of p)) × Appends (O.written out.old) (O.written out.new) (report_bytes judged (findings_of p))) }
+
+    // Any other text has the line of its first fault, with 2.
+    ensures refused { (name : List ℕ) → file_asked (texts_of words.now) ≡ Some name → IfSome (contents_of (F.named files.old) name)
+        (λ bytes. (fault : Refusal) → IsFirstFault (take 262145 bytes) fault → result ≤ 2
+        → (result ≡ 2) × Appends (O.written out.old) (O.written out.new) (refusal_line fault)) }
+
     // Before a fault or want of memory a front of the answer was written, and then the line of the status.
     ensures front { (name : List ℕ) → file_asked (texts_of words.now) ≡ Some name → IfSome (contents_of (F.named files.old) name)
         (λ bytes. ((result ≡ 4) → WritesFront (take 262145 bytes) file_fault_line (O.written out.old) (O.written out.new))
@@ -71,6 +83,9 @@ pub fn run<F: Files, O: Sink>(alloc: Global, words: &[String], files: &mut F, ou
         → (steps : List Choice) → IsRun p steps → ¬ (Breaks R22_17 p steps)) }
 {
     silence_is_sound();
+    program_is_one();
+    supported_has_no_fault();
+    first_fault_is_one();
     match file_of(words) {
         Some(name) => check(alloc, name, files, out),
         None => match write_all(out, USAGE) {

@@ -236,46 +236,56 @@ fn words_that_are_no_form_get_the_usage_line(rt: HostRuntime) -> Result<(), Fail
     Ok(())
 }
 
+/// The eight lines with an unlock that is found.
+const UNLOCK: &str =
+    "#include <threads.h>\nstatic mtx_t m;\nint main(void)\n{\n    (void)mtx_init(&m, mtx_plain);\n    (void)mtx_unlock(&m);\n    return 0;\n}\n";
+
+const FOUND: &str = "report 1\nR22.17 6:11 main m unlock -\nR22.17 1\nfindings 1\n";
+
 #[test]
-fn a_fault_has_the_status_of_its_device(rt: HostRuntime) -> Result<(), Fail> {
+fn each_call_that_fails_has_the_status_of_its_device(rt: HostRuntime) -> Result<(), Fail> {
     let alloc = rt.alloc();
-    let text = format!(in alloc; "{HEAD}    (void)mtx_unlock(&m);\n{TAIL}")?;
-    let whole = checked(alloc, text.as_str())?;
-    let rows = [
-        ("text.c", 1, 9, "file fault\n", 4),
-        ("text.c", 2, 9, "file fault\n", 4),
-        ("text.c", 3, 9, "file fault\n", 4),
-        ("none.c", 9, 9, "file fault\n", 4),
-        ("none.c", 9, 1, "", 4),
-        ("text.c", 9, 1, "", 5),
-    ];
-    for (name, files_failing, output_failing, output, status) in rows {
-        let end = end_of(
-            alloc,
-            &["check", name],
-            text.as_bytes(),
-            vec![in alloc; files_failing]?,
-            vec![in alloc; output_failing]?,
-        )?;
-        assert_eq!(rt;
-            end.bytes.as_slice(),
-            output.as_bytes(),
-            "{name} {files_failing}"
-        );
-        assert_eq!(rt; end.status, status, "{name} {files_failing}");
+    // Which call of a device is the first behind all that are made, and what a fault leaves.
+    for (of_files, free, output, status) in [(true, 4, "file fault\n", 4), (false, 2, "", 5)] {
+        for call in 1..=free {
+            let failing = vec![in alloc; call]?;
+            let none = Vec::new(alloc);
+            let (files, out) = if of_files {
+                (failing, none)
+            } else {
+                (none, failing)
+            };
+            let end = end_of(alloc, &["check", "text.c"], UNLOCK.as_bytes(), files, out)?;
+            let (want, code) = if call < free {
+                (output, status)
+            } else {
+                (FOUND, 1)
+            };
+            assert_eq!(rt; end.bytes.as_slice(), want.as_bytes(), "call {call}");
+            assert_eq!(rt; end.status, code, "call {call}");
+        }
     }
-    let end = end_of(
-        alloc,
-        &["check", "text.c"],
-        text.as_bytes(),
-        vec![in alloc; 4]?,
-        vec![in alloc; 2]?,
-    )?;
-    assert_eq!(rt;
-        end.bytes.as_slice(),
-        whole.bytes.as_slice(),
-        "no call is left that could fail"
-    );
-    assert_eq!(rt; end.status, 1);
+    // The name of no file, and then an output that takes no line either.
+    for (failing, output) in [(9, "file fault\n"), (1, "")] {
+        let out = vec![in alloc; failing]?;
+        let end = end_of(alloc, &["check", "none.c"], b"", Vec::new(alloc), out)?;
+        assert_eq!(rt; end.bytes.as_slice(), output.as_bytes());
+        assert_eq!(rt; end.status, 4);
+    }
     Ok(())
+}
+
+/// To be tried with each allocation failing in turn; with none it shows that 8 is not answered where
+/// memory is there.
+#[test]
+fn want_of_memory_is_answered_by_8_or_not_met(rt: HostRuntime) {
+    if let Ok(end) = checked(rt.alloc(), UNLOCK) {
+        let want = if end.status == 8 {
+            "out of memory\n"
+        } else {
+            FOUND
+        };
+        assert_eq!(rt; end.bytes.as_slice(), want.as_bytes());
+        assert!(rt; end.status == 1 || end.status == 8);
+    }
 }
