@@ -3,3 +3,4 @@ mod Digits
 mod Listed
 mod Longest
 mod Order
+mod Classes

@@ -7,5 +7,6 @@ pub mod Tokens
 pub mod Limits
 pub mod Scanning
 pub mod Identifiers
+pub mod WordClasses
 pub mod Integers
 pub mod Literals

@@ -14,6 +14,7 @@ mod scanner;
 mod token;
 #[cfg(test)]
 mod token_table;
+mod word_class;
 
 pub use identifiers::is_identifier;
 pub use integer::{IntegerLiteral, IntegerType, integer_literal};
@@ -21,3 +22,4 @@ pub use literal::{NumberLiteral, character_literal, number_literal};
 pub use position::{FIRST_PLACE, place_after};
 pub use scanner::{MAX_BYTES, MAX_TOKENS, tokens};
 pub use token::{Token, TokenClass};
+pub use word_class::{WordClass, class_of_word, word_table};
