@@ -1,0 +1,3 @@
+pub mod Predictions
+pub mod Sentences
+pub mod Trees

@@ -1,0 +1,9 @@
+//! Predictive parsing over the prediction rows of any LL(1) grammar, after Aho, Lam, Sethi and
+//! Ullman, Compilers, 2nd edition, sections 4.2 to 4.4.
+
+#![tactic(auto)]
+
+mod parser;
+mod production;
+
+pub use production::{END_OF_TEXT, Production, Row};
