@@ -1,6 +1,10 @@
 pub mod Endings
 pub mod Following
 pub mod Forests
+pub mod Lookups
 pub mod Progress
+pub mod Pushing
+pub mod Reading
 pub mod Shifts
 pub mod Steps
+pub mod Verdicts

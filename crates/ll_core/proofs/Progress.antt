@@ -3,6 +3,7 @@ use Rattle.std.proofs.Common.{◌≡◌, ◌≢◌, ℕ, ◌+◌, ◌<◌, ◌�
 use Rattle.ll_core.specs.declared.production.Production.{Production}
 use Rattle.ll_core.specs.declared.production.Row.{Row}
 use Rattle.ll_core.specs.declared.parser.Expected.{Expected}
+use Rattle.ll_core.specs.Stacks.{expected_at}
 use Rattle.ll_core.specs.Trees.{Forest, Empty, Leaf, Node, IsForest, IsToken, leaves, leftmost, nestings, right_of, is_left, end_of_text, deepening}
 use Rattle.ll_core.specs.Sentences.{start_of, IsDerivation, Begins, AllWithin, IsShallow}
 use Rattle.ll_core.specs.Predictions.{StandsBehind, CanFollow, HasSentence, IsPrediction, first_or}
@@ -11,10 +12,6 @@ use Rattle.ll_core.proofs.Following.{Expansion, expansion, first_or-append, Insi
 
 abbrev pub symbols_of : List Expected → List ℕ
 symbols_of stack = map (λ e. e.symbol) stack
-
--- the symbols of a right side, all at one nesting
-abbrev pub expected_at : ℕ → List ℕ → List Expected
-expected_at nesting symbols = map (λ x. record { symbol = x; nesting = nesting }) symbols
 
 -- the nestings of the leaves, where each root stands at the nesting that is expected of it
 abbrev pub nestings_on : List Production → List Expected → Forest → List ℕ

@@ -3,12 +3,13 @@ use Rattle.std.proofs.Common.{◌≡◌, ◌≢◌, ℕ, suc, ◌+◌, ◌<◌, 
 use Rattle.ll_core.specs.declared.production.Production.{Production}
 use Rattle.ll_core.specs.declared.production.Row.{Row}
 use Rattle.ll_core.specs.declared.parser.Expected.{Expected}
+use Rattle.ll_core.specs.Stacks.{expected_at}
 use Rattle.ll_core.specs.Trees.{Forest, Empty, Leaf, Node, IsForest, IsToken, leaves, leftmost, nestings, right_of, is_left, end_of_text, deepening}
 use Rattle.ll_core.specs.Sentences.{start_of, IsDerivation, Begins, AllWithin, IsShallow}
 use Rattle.ll_core.specs.Predictions.{StandsBehind, CanFollow, HasSentence, IsPrediction, first_or}
 use Rattle.ll_core.proofs.Forests.{join, leaves-join, leftmost-join, IsForest-join, cut, Cut}
 use Rattle.ll_core.proofs.Following.{Expansion, expansion, first_or-append, Inside, CanFollow-inside}
-use Rattle.ll_core.proofs.Progress.{Progress, Continues, Followed, next_of, symbols_of, expected_at, nestings_on, symbols_of-expected, nestings_on-expected}
+use Rattle.ll_core.proofs.Progress.{Progress, Continues, Followed, next_of, symbols_of, nestings_on, symbols_of-expected, nestings_on-expected}
 use Rattle.std.proofs.lemmas.List.{append_cancel_left}
 
 -- the symbols behind an expanded left side can be followed as before, and those of the right side by what stands behind them

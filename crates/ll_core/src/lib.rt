@@ -3,7 +3,13 @@
 
 #![tactic(auto)]
 
+mod derivation;
+mod grammar;
 mod parser;
 mod production;
+mod symbols;
 
+pub use derivation::Derivation;
+pub use grammar::Grammar;
+pub use parser::{NESTING_LIMIT, ParseStop, parse};
 pub use production::{END_OF_TEXT, Production, Row};

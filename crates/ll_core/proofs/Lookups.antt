@@ -1,0 +1,41 @@
+-- What the tables of a grammar say of a left side before a token, and of the right sides.
+use Rattle.std.proofs.Common.{◌≡◌, ◌≢◌, ℕ, suc, zero, ◌+◌, ◌<◌, ◌^◌, true, false, Bool, List, [], ◌∷◌, length, get_or, refl, ap, sym, ◌∙◌, subst, Some, None, Option, slice_get, IfSome, nat_eq, All, arith}
+use Rattle.std.specs.HashMap.{get}
+use Rattle.std.proofs.lemmas.Option.{slice_get_within, get_or_from_slice_get, slice_get-get_or}
+use Rattle.ll_core.specs.declared.production.Production.{Production}
+use Rattle.ll_core.specs.Trees.{Forest, Empty, Leaf, Node, IsForest, right_of, is_left, end_of_text}
+use Rattle.ll_core.specs.Predictions.{HasSentence, IsPrediction}
+use Rattle.ll_core.specs.Grammars.{AreProductions}
+use Rattle.ll_core.specs.Tables.{key_of, AreTables, Numbered}
+use Rattle.ll_core.proofs.Forests.{join, IsForest-join}
+use Rattle.ll_core.proofs.Shifts.{is_left-numbered}
+
+-- symbols that are no end of the text derive something, where each left side does
+pub HasSentence-all : (g : List Production) → ((x : ℕ) → is_left g x ≡ true → HasSentence g (x ∷ [])) → (xs : List ℕ) → All (λ x. x ≢ end_of_text) xs → HasSentence g xs
+HasSentence-all g each [] h = (Empty, tt)
+HasSentence-all g each (x ∷ xs) h = go (is_left g x) refl (HasSentence-all g each xs (λ k d l. h (suc k) d (omega arith)))
+  where
+    go : (b : Bool) → is_left g x ≡ b → HasSentence g xs → HasSentence g (x ∷ xs)
+    go true e rest = (join (each x e).0 rest.0, IsForest-join g (x ∷ []) xs (each x e).0 rest.0 (each x e).1 rest.1)
+    go false e rest = (Leaf x rest.0, (refl, (e, h 0 0 (omega arith)), rest.1))
+
+pub right_side : (g : List Production) (n : ℕ) (p : Production) → AreProductions g → slice_get g n ≡ Some p → HasSentence g (right_of p)
+right_side g n p h e =
+    let right : All (λ x. x ≢ end_of_text) (right_of p) =
+        subst (λ (q : Production). All (λ x. x ≢ end_of_text) (right_of q)) (get_or_from_slice_get g n p p e) (h.rights n p (slice_get_within g n p e)) in
+    HasSentence-all g h.sentences (right_of p) right
+
+pub found : (g : List Production) (lefts : List ℕ) (predictions : Numbered) (left token : ℕ) (o : Option ℕ) → AreTables g lefts predictions
+  → left < 2 ^ 16 → token < 2 ^ 16 → o ≡ get nat_eq predictions (key_of left token)
+  → IfSome o (λ m. IsPrediction g (record { left = left; token = token; production = m }))
+found g lefts predictions left token None h l t e = tt
+found g lefts predictions left token (Some m) h l t e = h.sound left token m l t (sym e)
+
+-- what a place of the productions has, where nothing is known of the default
+module _ (g h : List Production) (same : g ≡ h) (are : AreProductions g) (n : ℕ) (d : Production) (in_range : n < length g) where
+  pub right_at : HasSentence h (right_of (get_or g n d))
+  right_at = subst (λ (ps : List Production). HasSentence ps (right_of (get_or g n d))) same (right_side g n (get_or g n d) are (slice_get-get_or g n d in_range))
+
+  pub left_at : HasSentence h ((get_or g n d).left ∷ [])
+  left_at = subst (λ (ps : List Production). HasSentence ps ((get_or g n d).left ∷ [])) same
+      (are.sentences (get_or g n d).left (is_left-numbered g n (get_or g n d) (slice_get-get_or g n d in_range)))
