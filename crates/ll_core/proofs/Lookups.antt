@@ -6,7 +6,8 @@ use Rattle.ll_core.specs.declared.production.Production.{Production}
 use Rattle.ll_core.specs.Trees.{Forest, Empty, Leaf, Node, IsForest, right_of, is_left, end_of_text}
 use Rattle.ll_core.specs.Predictions.{HasSentence, IsPrediction}
 use Rattle.ll_core.specs.Grammars.{AreProductions}
-use Rattle.ll_core.specs.Tables.{key_of, AreTables, Numbered}
+use Rattle.ll_core.specs.Keys.{key_of}
+use Rattle.ll_core.specs.Tables.{AreTables, Numbered}
 use Rattle.ll_core.proofs.Forests.{join, IsForest-join}
 use Rattle.ll_core.proofs.Shifts.{is_left-numbered}
 

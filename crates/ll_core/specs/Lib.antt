@@ -1,7 +1,9 @@
 pub mod Answers
 pub mod Grammars
+pub mod Keys
 pub mod Members
 pub mod Predictions
+pub mod Relations
 pub mod Sentences
 pub mod Stacks
 pub mod Tables

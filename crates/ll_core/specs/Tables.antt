@@ -5,6 +5,7 @@ use Rattle.std.specs.declared.hash.FoldHasher.{FoldHasher}
 use Rattle.std.specs.declared.hash.BuildHasherDefault.{BuildHasherDefault}
 use Rattle.ll_core.specs.declared.production.Production.{Production}
 use Rattle.ll_core.specs.declared.production.Row.{Row}
+use Rattle.ll_core.specs.Keys.{key_of}
 use Rattle.ll_core.specs.Members.{has}
 use Rattle.ll_core.specs.Trees.{is_left}
 use Rattle.ll_core.specs.Predictions.{IsPrediction}
@@ -12,10 +13,6 @@ use Rattle.ll_core.specs.Grammars.{IsGrammar}
 
 abbrev pub Numbered : Type 0
 Numbered = HashMap ℕ ℕ (BuildHasherDefault FoldHasher)
-
--- one number for a left side and a token
-abbrev pub key_of : ℕ → ℕ → ℕ
-key_of left token = left * 2 ^ 16 + token
 
 -- the sets hold the left sides, and at each left side and token the production that is predicted
 pub record AreTables (productions : List Production) (lefts : List ℕ) (predictions : Numbered) : Type 0 where

@@ -4,7 +4,8 @@ ghost use Rattle.ll_core.specs.Trees.{is_left, right_of};
 ghost use Rattle.ll_core.specs.Sentences.{start_of};
 ghost use Rattle.ll_core.specs.Predictions.{HasSentence, IsPrediction};
 ghost use Rattle.ll_core.specs.Grammars.{IsGrammar};
-ghost use Rattle.ll_core.specs.Tables.{key_of, AreTables};
+ghost use Rattle.ll_core.specs.Keys.{key_of};
+ghost use Rattle.ll_core.specs.Tables.{AreTables};
 
 use std::collections::HashMap;
 use std::marker::Model;
@@ -72,7 +73,7 @@ impl<const P: usize, const S: usize> Grammar<P, S> {
 }
 
 /// One number for a left side and a token.
-fn key(left: u16, token: u16) -> u32
+pub(crate) fn key(left: u16, token: u16) -> u32
     ensures { result ≡ key_of left token }
 {
     u32::from(left) * 65536 + u32::from(token)

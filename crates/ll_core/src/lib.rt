@@ -7,6 +7,7 @@ mod derivation;
 mod grammar;
 mod parser;
 mod production;
+mod relation;
 mod symbols;
 
 pub use derivation::Derivation;

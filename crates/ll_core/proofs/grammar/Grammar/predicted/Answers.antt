@@ -1,7 +1,8 @@
 use Rattle.std.proofs.Common.{◌≡◌, List, nat_eq, rules, ◌∙◌, subst}
 use Rattle.std.specs.HashMap.{get}
 use Rattle.ll_core.specs.declared.production.Production.{Production}
-use Rattle.ll_core.specs.Tables.{key_of, AreTables}
+use Rattle.ll_core.specs.Keys.{key_of}
+use Rattle.ll_core.specs.Tables.{AreTables}
 use Rattle.ll_core.proofs.Lookups.{found}
 use Rattle.ll_core.proofs.grammar.Grammar.predicted.Goals as goal
 
