@@ -2,6 +2,7 @@ pub mod Endings
 pub mod Following
 pub mod Forests
 pub mod Lookups
+pub mod Pairs
 pub mod Progress
 pub mod Pushing
 pub mod Reading

@@ -1,11 +1,16 @@
 -- Relations between symbols, as lists of pairs.
-use Rattle.std.specs.Prelude.{◌≡◌, ◌==◌, ◌&&◌, ℕ, Bool, true, List}
+use Rattle.std.specs.Prelude.{◌≡◌, ◌==◌, ◌&&◌, ℕ, Bool, true, List, ◌++◌}
 use Rattle.std.specs.List.{list_any}
 use Rattle.ll_core.specs.declared.relation.Pair.{Pair}
 
 -- whether a list of pairs has the pair
 abbrev pub has_pair : List Pair → ℕ → ℕ → Bool
 has_pair pairs from to = list_any (λ p. (p.from == from) && (p.to == to)) pairs
+
+-- the new list has more pairs behind the old ones
+pub record Extends (old new : List Pair) : Type 0 where
+  pub added : List Pair
+  pub all : new ≡ old ++ added
 
 -- some seed leads to the token, and edges lead to the first symbol of that seed
 pub data Reaches (edges seeds : List Pair) : ℕ → ℕ → Type 0 where

@@ -1,5 +1,5 @@
-ghost use Rattle.std.specs.Prelude.{◌≡◌, ℕ, ◌+◌, ◌<◌, ◌≤◌, ◌^◌, ◌||◌, ◌&&◌, ◌==◌, ◌↔◌, true, false, List, [], ◌∷◌, ◌++◌, Some, length, slice_get, nat_eq, IfOk, OnOk, OnErr};
-ghost use Rattle.std.specs.HashSet.{contains};
+ghost use Rattle.std.specs.Prelude.{◌≡◌, ℕ, ◌+◌, ◌<◌, ◌≤◌, ◌^◌, ◌||◌, ◌&&◌, ◌==◌, ◌↔◌, true, false, List, [], ◌∷◌, ◌++◌, Some, length, IfOk, OnOk};
+ghost use Rattle.ll_core.specs.Relations.{has_pair, Extends, Reaches};
 
 use std::alloc::{AllocError, Global};
 use std::collections::HashSet;
@@ -76,4 +76,32 @@ impl Relation {
         }
         Ok(())
     }
+}
+
+/// Adds, for each edge to the pair's first symbol, the pair from where the edge comes.
+pub fn lead_back(relation: &mut Relation, edges: &[Pair], pair: Pair) -> Result<(), AllocError>
+    ensures extends { OnOk result (Extends relation.old relation.new) }
+    ensures has { OnOk result ((x t : ℕ) → has_pair relation.new x t ≡ (has_pair relation.old x t || ((pair.to == t) && has_pair edges.now x pair.from))) }
+{
+    for edge in edges {
+        if edge.to == pair.from {
+            relation.insert(edge.from, pair.to)?;
+        }
+    }
+    Ok(())
+}
+
+/// The least relation with the seeds that has, for each edge to the first symbol of a pair, that
+/// pair from where the edge comes.
+pub fn closure(edges: &[Pair], seeds: Relation) -> Result<Relation, AllocError>
+    ensures { IfOk result (λ all. (x t : ℕ) → (has_pair all x t ≡ true) ↔ Reaches edges.now seeds x t) }
+{
+    let mut all = seeds;
+    let mut i = 0;
+    while i < all.pairs().len() {
+        let pair = all.pairs()[i];
+        lead_back(&mut all, edges, pair)?;
+        i += 1;
+    }
+    Ok(all)
 }
