@@ -5,6 +5,7 @@ pub mod Members
 pub mod Predictions
 pub mod Relations
 pub mod Sentences
+pub mod Sets
 pub mod Stacks
 pub mod Tables
 pub mod Trees

@@ -27,3 +27,16 @@ pub struct Row {
     /// The number of the production, from 0.
     pub production: u16,
 }
+
+impl Production {
+    ghost use Rattle.std.specs.Prelude.{◌≡◌, ◌≤◌};
+    ghost use Rattle.ll_core.specs.Trees.{right_of};
+
+    /// The symbols of the right side.
+    pub(crate) fn right_side(&self) -> &[u16]
+        requires { self.now.length ≤ 12 }
+        ensures { result.now ≡ right_of self.now }
+    {
+        &self.right[..usize::from(self.length)]
+    }
+}
