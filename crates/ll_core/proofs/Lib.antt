@@ -1,3 +1,4 @@
+pub mod Adding
 pub mod Deriving
 pub mod Endings
 pub mod Following

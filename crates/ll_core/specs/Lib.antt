@@ -2,6 +2,7 @@ pub mod Answers
 pub mod Grammars
 pub mod Keys
 pub mod Members
+pub mod Places
 pub mod Predictions
 pub mod Relations
 pub mod Sentences

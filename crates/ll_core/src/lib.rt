@@ -7,6 +7,7 @@ mod derivation;
 mod derivable;
 mod grammar;
 mod parser;
+mod places;
 mod production;
 mod relation;
 mod symbols;

@@ -21,6 +21,10 @@ impl Model for SymbolSet {
 }
 
 impl SymbolSet {
+    ghost use Rattle.std.specs.Prelude.{◌≡◌, [], ◌∷◌, ◌++◌, length, IfOk, OnOk, OnErr};
+    ghost use Rattle.ll_core.specs.Members.{has};
+    ghost use Rattle.ll_core.specs.Places.{has_all};
+
     pub fn new(alloc: Global) -> Result<SymbolSet, AllocError>
         ensures { IfOk result (λ set. set ≡ []) }
     {
@@ -40,6 +44,17 @@ impl SymbolSet {
         ensures { result ≡ has self.now symbol }
     {
         self.present[usize::from(symbol)]
+    }
+
+    pub fn contains_all(&self, symbols: &[u16]) -> bool
+        ensures { result ≡ has_all self.now symbols.now }
+    {
+        for symbol in symbols {
+            if !self.contains(*symbol) {
+                return false;
+            }
+        }
+        true
     }
 
     pub fn insert(&mut self, symbol: u16) -> Result<(), AllocError>
