@@ -1,10 +1,12 @@
 pub mod Adding
 pub mod Deriving
 pub mod Endings
+pub mod FirstSets
 pub mod Following
 pub mod Forests
 pub mod Lookups
 pub mod Pairs
+pub mod Placing
 pub mod Progress
 pub mod Pushing
 pub mod Reading

@@ -1,5 +1,5 @@
 -- What the tables of a grammar say of a left side before a token, and of the right sides.
-use Rattle.std.proofs.Common.{◌≡◌, ◌≢◌, ℕ, suc, zero, ◌+◌, ◌<◌, ◌^◌, true, false, Bool, List, [], ◌∷◌, length, get_or, refl, ap, sym, ◌∙◌, subst, Some, None, Option, slice_get, IfSome, nat_eq, All, arith}
+use Rattle.std.proofs.Common.{◌≡◌, ◌≢◌, ℕ, suc, zero, ◌+◌, ◌<◌, ◌^◌, true, false, Bool, List, [], ◌∷◌, length, get_or, refl, ap, sym, ◌∙◌, subst, Some, None, Option, slice_get, IfSome, nat_eq, All, arith, ◌++◌, length-append, get_or-append-add}
 use Rattle.std.specs.HashMap.{get}
 use Rattle.std.proofs.lemmas.Option.{slice_get_within, get_or_from_slice_get, slice_get-get_or}
 use Rattle.ll_core.specs.declared.production.Production.{Production}
@@ -40,3 +40,13 @@ module _ (g h : List Production) (same : g ≡ h) (are : AreProductions g) (n : 
   pub left_at : HasSentence h ((get_or g n d).left ∷ [])
   left_at = subst (λ (ps : List Production). HasSentence ps ((get_or g n d).left ∷ [])) same
       (are.sentences (get_or g n d).left (is_left-numbered g n (get_or g n d) (slice_get-get_or g n d in_range)))
+
+-- a symbol of a right side is no end of the text
+pub right_symbol : (g : List Production) → AreProductions g → (n : ℕ) (p : Production) (x : ℕ) (before after : List ℕ) → slice_get g n ≡ Some p
+  → right_of p ≡ before ++ x ∷ after → x ≢ end_of_text
+right_symbol g are n p x before after numbered whole =
+    let rights : All (λ x. x ≢ end_of_text) (right_of p) =
+        subst (λ (q : Production). All (λ x. x ≢ end_of_text) (right_of q)) (get_or_from_slice_get g n p p numbered) (are.rights n p (slice_get_within g n p numbered)) in
+    let all : All (λ x. x ≢ end_of_text) (before ++ x ∷ after) = subst (λ xs. All (λ x. x ≢ end_of_text) xs) whole rights in
+    let lt : length before + 0 < length (before ++ x ∷ after) = omega (arith, length-append before (x ∷ after)) in
+    subst (λ z. z ≢ end_of_text) (get_or-append-add before (x ∷ after) 0 0) (all (length before + 0) 0 lt)
