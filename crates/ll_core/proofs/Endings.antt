@@ -34,7 +34,7 @@ module _ (g : List Production) (tokens : List ℕ) (start : ℕ) (is_start : sta
     within = All-nil (λ d. d ≤ nesting_limit); nested = nestings_on-start g start f d
   }
 
-  end_follows : (f : Forest) → IsForest g [] f → CanFollow g start (first_or end_of_text (leaves f))
+  pub end_follows : (f : Forest) → IsForest g [] f → CanFollow g start (first_or end_of_text (leaves f))
   end_follows (Leaf t o) d = absurd d
   end_follows (Node n c o) d = absurd d
   end_follows Empty d =

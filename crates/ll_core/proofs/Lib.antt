@@ -2,6 +2,7 @@ pub mod Adding
 pub mod Deriving
 pub mod Endings
 pub mod FirstSets
+pub mod FollowSets
 pub mod Following
 pub mod Forests
 pub mod Lookups

@@ -16,3 +16,7 @@ pub record Extends (old new : List Pair) : Type 0 where
 pub data Reaches (edges seeds : List Pair) : ℕ → ℕ → Type 0 where
   Seed : {x t : ℕ} → has_pair seeds x t ≡ true → Reaches edges seeds x t
   Along : {x y t : ℕ} → has_pair edges x y ≡ true → Reaches edges seeds y t → Reaches edges seeds x t
+
+-- the first relation leads to a symbol that the second leads from
+abbrev pub composed : List Pair → List Pair → ℕ → ℕ → Bool
+composed first second from to = list_any (λ p. (p.to == to) && has_pair first from p.from) second
