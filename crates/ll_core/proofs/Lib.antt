@@ -11,6 +11,7 @@ pub mod Placing
 pub mod Progress
 pub mod Pushing
 pub mod Reading
+pub mod RowsFound
 pub mod Shifts
 pub mod Steps
 pub mod Verdicts

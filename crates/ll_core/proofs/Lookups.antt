@@ -1,13 +1,13 @@
 -- What the tables of a grammar say of a left side before a token, and of the right sides.
 use Rattle.std.proofs.Common.{◌≡◌, ◌≢◌, ℕ, suc, zero, ◌+◌, ◌<◌, ◌^◌, true, false, Bool, List, [], ◌∷◌, length, get_or, refl, ap, sym, ◌∙◌, subst, Some, None, Option, slice_get, IfSome, nat_eq, All, arith, ◌++◌, length-append, get_or-append-add}
-use Rattle.std.specs.HashMap.{get}
 use Rattle.std.proofs.lemmas.Option.{slice_get_within, get_or_from_slice_get, slice_get-get_or}
 use Rattle.ll_core.specs.declared.production.Production.{Production}
 use Rattle.ll_core.specs.Trees.{Forest, Empty, Leaf, Node, IsForest, right_of, is_left, end_of_text}
 use Rattle.ll_core.specs.Predictions.{HasSentence, IsPrediction}
 use Rattle.ll_core.specs.Grammars.{AreProductions}
-use Rattle.ll_core.specs.Keys.{key_of}
-use Rattle.ll_core.specs.Tables.{AreTables, Numbered}
+use Rattle.ll_core.specs.declared.production.Row.{Row}
+use Rattle.ll_core.specs.Tables.{AreTables, production_at}
+use Rattle.ll_core.proofs.RowsFound.{production_at-Contains}
 use Rattle.ll_core.proofs.Forests.{join, IsForest-join}
 use Rattle.ll_core.proofs.Shifts.{is_left-numbered}
 
@@ -26,11 +26,14 @@ right_side g n p h e =
         subst (λ (q : Production). All (λ x. x ≢ end_of_text) (right_of q)) (get_or_from_slice_get g n p p e) (h.rights n p (slice_get_within g n p e)) in
     HasSentence-all g h.sentences (right_of p) right
 
-pub found : (g : List Production) (lefts : List ℕ) (predictions : Numbered) (left token : ℕ) (o : Option ℕ) → AreTables g lefts predictions
-  → left < 2 ^ 16 → token < 2 ^ 16 → o ≡ get nat_eq predictions (key_of left token)
-  → IfSome o (λ m. IsPrediction g (record { left = left; token = token; production = m }))
-found g lefts predictions left token None h l t e = tt
-found g lefts predictions left token (Some m) h l t e = h.sound left token m l t (sym e)
+-- the row that is found is a prediction, and each prediction is found
+pub found : (g : List Production) (lefts : List ℕ) (rows : List Row) (left token : ℕ) (o : Option ℕ) → AreTables g lefts rows
+  → o ≡ production_at rows left token → IfSome o (λ m. IsPrediction g (record { left = left; token = token; production = m }))
+found g lefts rows left token None h e = tt
+found g lefts rows left token (Some m) h e =
+    let c = production_at-Contains rows left token m (sym e) in
+    let r : Row = record { left = left; token = token; production = m } in
+    subst (λ (q : Row). IsPrediction g q) c.2 (h.grammar.sound c.0 r c.1)
 
 -- what a place of the productions has, where nothing is known of the default
 module _ (g h : List Production) (same : g ≡ h) (are : AreProductions g) (n : ℕ) (d : Production) (in_range : n < length g) where

@@ -7,10 +7,10 @@ ghost use Rattle.ll_core.specs.Grammars.{IsGrammar};
 ghost use Rattle.ll_core.specs.Keys.{key_of};
 ghost use Rattle.ll_core.specs.Tables.{AreTables};
 
-use std::collections::HashMap;
 use std::marker::Model;
 
 use crate::production::Production;
+use crate::rows::RowTable;
 use crate::symbols::SymbolSet;
 
 /// A grammar of P productions that S prediction rows parse without a conflict.
@@ -21,8 +21,7 @@ use crate::symbols::SymbolSet;
 pub struct Grammar<const P: usize, const S: usize> {
     productions: [Production; P],
     lefts: SymbolSet,
-    /// The production that is predicted, by [`key`] of a left side and a token.
-    predictions: HashMap<u32, u16>,
+    rows: RowTable,
 }
 
 impl<const P: usize, const S: usize> Model for Grammar<P, S> {
@@ -34,7 +33,7 @@ impl<const P: usize, const S: usize> Model for Grammar<P, S> {
 
     ghost view = { λ g. g.productions };
 
-    ghost invariant = { λ g. AreTables g.productions g.lefts g.predictions };
+    ghost invariant = { λ g. AreTables g.productions g.lefts g.rows };
 }
 
 impl<const P: usize, const S: usize> Grammar<P, S> {
@@ -59,7 +58,7 @@ impl<const P: usize, const S: usize> Grammar<P, S> {
         ensures some { IfSome result (λ m. IsPrediction self.now (record { left = left; token = token; production = m })) }
         ensures all { (m : ℕ) → IsPrediction self.now (record { left = left; token = token; production = m }) → result ≡ Some m }
     {
-        self.predictions.get(&key(left, token)).copied()
+        self.rows.find(left, token)
     }
 
     pub(crate) fn production(&self, number: u16) -> Production

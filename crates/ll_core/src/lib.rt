@@ -10,6 +10,7 @@ mod parser;
 mod places;
 mod production;
 mod relation;
+mod rows;
 mod symbols;
 
 pub use derivation::Derivation;
