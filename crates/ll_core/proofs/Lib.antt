@@ -8,6 +8,7 @@ pub mod Forests
 pub mod Lookups
 pub mod Pairs
 pub mod Placing
+pub mod PredictedSets
 pub mod Progress
 pub mod Pushing
 pub mod Reading

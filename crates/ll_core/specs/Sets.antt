@@ -1,9 +1,11 @@
 -- Which symbols derive something, by tests over listed symbols that compute.
-use Rattle.std.specs.Prelude.{◌≡◌, ◌==◌, ◌&&◌, ◌||◌, ℕ, ◌<◌, ◌≤◌, ◌⊎◌, Bool, true, false, not, List, [], ◌∷◌, length, Some, slice_get, if◌then◌else◌}
+use Rattle.std.specs.Prelude.{◌≡◌, ◌==◌, ◌&&◌, ◌||◌, ℕ, ◌<◌, ◌≤◌, ◌⊎◌, Bool, true, false, not, ◌↔◌, List, [], ◌∷◌, ◌++◌, length, Some, slice_get, if◌then◌else◌}
 use Rattle.ll_core.specs.declared.production.Production.{Production}
+use Rattle.ll_core.specs.declared.relation.Pair.{Pair}
 use Rattle.ll_core.specs.Members.{has}
+use Rattle.ll_core.specs.Relations.{has_pair}
 use Rattle.ll_core.specs.Trees.{right_of, is_left}
-use Rattle.ll_core.specs.Predictions.{HasSentence, DerivesNothing}
+use Rattle.ll_core.specs.Predictions.{HasSentence, DerivesNothing, CanBegin, CanFollow}
 
 -- the symbols derive some list of tokens, or the empty one
 abbrev pub CanDerive : Bool → List Production → List ℕ → Type 0
@@ -33,3 +35,16 @@ GrewOrClosed tokens grammar lefts old new n =
 abbrev pub AreDerivingLefts : Bool → List Production → List ℕ → Type 0
 AreDerivingLefts tokens grammar set =
     AreDeriving tokens grammar set × ((x : ℕ) → is_left grammar x ≡ true → CanDerive tokens grammar (x ∷ []) → has set x ≡ true)
+
+-- the sets by which the productions are predicted are the true ones
+pub record ArePredictionSets (grammar : List Production) (nothing : List ℕ) (first follow : List Pair) : Type 0 where
+  pub nothing_are : AreDerivingLefts false grammar nothing
+  pub first_sound : (symbol token : ℕ) → has_pair first symbol token ≡ true → CanBegin grammar (symbol ∷ []) token
+  pub first_complete : (number : ℕ) (p : Production) (before : List ℕ) (symbol : ℕ) (after : List ℕ) (token : ℕ)
+    → slice_get grammar number ≡ Some p → right_of p ≡ before ++ symbol ∷ after → CanBegin grammar (symbol ∷ []) token → has_pair first symbol token ≡ true
+  pub follow_are : (left token : ℕ) → (has_pair follow left token ≡ true) ↔ CanFollow grammar left token
+
+-- whether a right side is predicted before the token, by such sets
+abbrev pub is_predicted : List ℕ → List Pair → List Pair → ℕ → ℕ → List ℕ → Bool
+is_predicted nothing first follow left token [] = has_pair follow left token
+is_predicted nothing first follow left token (x ∷ xs) = has_pair first x token || (has nothing x && is_predicted nothing first follow left token xs)

@@ -11,6 +11,7 @@ mod places;
 mod production;
 mod relation;
 mod rows;
+mod sets;
 mod symbols;
 
 pub use derivation::Derivation;
