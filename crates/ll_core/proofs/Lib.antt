@@ -1,4 +1,5 @@
 pub mod Adding
+pub mod Checking
 pub mod Deriving
 pub mod Endings
 pub mod FirstSets

@@ -1,4 +1,5 @@
 pub mod Answers
+pub mod Checks
 pub mod Grammars
 pub mod Keys
 pub mod Members

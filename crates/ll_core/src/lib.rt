@@ -4,6 +4,7 @@
 #![tactic(auto)]
 
 mod derivation;
+mod admissible;
 mod derivable;
 mod grammar;
 mod parser;
