@@ -7,10 +7,14 @@ ghost use Rattle.ll_core.specs.Grammars.{IsGrammar};
 ghost use Rattle.ll_core.specs.Keys.{key_of};
 ghost use Rattle.ll_core.specs.Tables.{AreTables};
 
+use std::alloc::{AllocError, Global};
 use std::marker::Model;
 
-use crate::production::Production;
-use crate::rows::RowTable;
+use crate::admissible::{are_all_found, are_predictions, are_productions};
+use crate::derivable::left_sides;
+use crate::production::{Production, Row};
+use crate::rows::{RowTable, table_of};
+use crate::sets::prediction_sets;
 use crate::symbols::SymbolSet;
 
 /// A grammar of P productions that S prediction rows parse without a conflict.
@@ -36,7 +40,55 @@ impl<const P: usize, const S: usize> Model for Grammar<P, S> {
     ghost invariant = { λ g. AreTables g.productions g.lefts g.rows };
 }
 
+/// Why there was no telling whether there is a grammar.
+#[derive(Clone, Copy, PartialEq, Eq, Debug)]
+pub enum GrammarStop {
+    /// There is no memory left.
+    Memory,
+}
+
+impl From<AllocError> for GrammarStop {
+    fn from(_: AllocError) -> GrammarStop {
+        GrammarStop::Memory
+    }
+}
+
 impl<const P: usize, const S: usize> Grammar<P, S> {
+    /// The grammar of these productions, where the rows are its prediction rows, in any order.
+    ///
+    /// The answer is a grammar exactly where there is a production, each right side has at most
+    /// twelve symbols, no symbol is [`END_OF_TEXT`](crate::END_OF_TEXT), each left side derives
+    /// some list of tokens, the rows are all prediction rows of the productions and nothing else,
+    /// and no left side and token stand in two of them; and None otherwise. (Aho, Lam, Sethi and
+    /// Ullman, algorithm 4.31.)
+    pub fn new(
+        alloc: Global,
+        productions: [Production; P],
+        rows: [Row; S],
+    ) -> Result<Option<Grammar<P, S>>, GrammarStop>
+        ensures some { IfOk result (λ answer. IfSome answer (λ grammar. (grammar ≡ productions.entry) × IsGrammar productions.entry rows.entry)) }
+        ensures none { IfOk result (λ answer. IfNone answer (¬ (IsGrammar productions.entry rows.entry))) }
+    {
+        let lefts = left_sides(alloc, &productions)?;
+        if !are_productions(alloc, &productions, &lefts)? {
+            return Ok(None);
+        }
+        let Some(table) = table_of(alloc, &rows)? else {
+            return Ok(None);
+        };
+        let sets = prediction_sets(alloc, &productions, &lefts)?;
+        if !are_predictions(&productions, &rows, &sets)
+            || !are_all_found(&productions, &sets, &table)
+        {
+            return Ok(None);
+        }
+        Ok(Some(Grammar {
+            productions,
+            lefts,
+            rows: table,
+        }))
+    }
+
     /// The left side of the first production.
     pub(crate) fn start(&self) -> u16
         ensures first { start_of self.now ≡ result ∷ [] }

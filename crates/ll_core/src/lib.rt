@@ -16,6 +16,6 @@ mod sets;
 mod symbols;
 
 pub use derivation::Derivation;
-pub use grammar::Grammar;
+pub use grammar::{Grammar, GrammarStop};
 pub use parser::{NESTING_LIMIT, ParseStop, parse};
 pub use production::{END_OF_TEXT, Production, Row};
