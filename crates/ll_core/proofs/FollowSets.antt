@@ -15,8 +15,8 @@ use Rattle.ll_core.proofs.Following.{Inside, CanFollow-inside, CanFollow-begins}
 use Rattle.ll_core.proofs.Endings.{end_follows}
 use Rattle.ll_core.proofs.Lookups.{right_side}
 use Rattle.ll_core.proofs.Shifts.{is_left-numbered}
-use Rattle.ll_core.proofs.Placing.{Place, Split, occur, beside_place, place_beside, ends_place, place_ends}
-use Rattle.ll_core.proofs.FirstSets.{rest_sentence, begins_whole, begins-sound, begins-begun, begun_split}
+use Rattle.ll_core.proofs.Placing.{Place, Split, Occur, occur, beside_place, place_beside, ends_place, place_ends}
+use Rattle.ll_core.proofs.FirstSets.{rest_sentence, begins_whole, begins-sound, reaches-begun}
 
 pub composed-split : (a b : List Pair) (x t : ℕ) → composed a b x t ≡ true → (z : ℕ) × (has_pair a x z ≡ true) × (has_pair b z t ≡ true)
 composed-split a [] x t h = absurd (true≢false (sym h))
@@ -39,6 +39,73 @@ split-composed a (p ∷ ps) x z t l r = go (or_true ((p.from == z) && (p.to == t
         or_left ((p.to == t) && has_pair a x p.from) (composed a ps x t)
           (and_both (p.to == t) (has_pair a x p.from) both.1 (ap (has_pair a x) (eqb-true p.from z both.0) ∙ l))
     go (inr there) rest = or_right ((p.to == t) && has_pair a x p.from) (composed a ps x t) (rest there)
+
+-- what can follow a left side is in any relation that has the end with the start, with a left side what can begin
+-- directly behind it, and with one that stands last what follows what holds it
+module _ (g : List Production) (B W : ℕ → ℕ → Type 0)
+    (begun : (xs : List ℕ) (f : Forest) (t : ℕ) (ts : List ℕ) → Occur g xs → IsForest g xs f → leaves f ≡ t ∷ ts → (y : ℕ) × (s : Split xs y) × DerivesNothing g s.before × B y t)
+    (W_end : (root : ℕ) → root ∷ [] ≡ start_of g → W root end_of_text)
+    (W_beside : (x t y : ℕ) (o : Place g x) → is_left g x ≡ true → (s : Split o.split.after y) → DerivesNothing g s.before → B y t → W x t)
+    (W_through : (x t : ℕ) (o : Place g x) → is_left g x ≡ true → DerivesNothing g o.split.after → W o.production.left t → W x t) where
+  -- what stands directly behind the symbol x at this place, or follows what holds it
+  at_place : (x : ℕ) (o : Place g x) → is_left g x ≡ true → (f : Forest) → IsForest g o.split.after f → (behind t : ℕ) → (t ≡ behind → W o.production.left t)
+    → t ≡ first_or behind (leaves f) → W x t
+  at_place x o l f d behind t outer e = go (leaves f) refl
+    where
+      go : (w : List ℕ) → leaves f ≡ w → W x t
+      go [] h =
+          W_through x t o l (f, d, h) (outer (e ∙ ap (first_or behind) h))
+      go (u ∷ us) h =
+          let same : u ≡ t = sym (e ∙ ap (first_or behind) h) in
+          let occurs = occur g o.number o.production o.numbered (o.split.before ++ x ∷ []) o.split.after (o.split.whole ∙ sym (append_assoc o.split.before (x ∷ []) o.split.after)) in
+          let b = begun o.split.after f t us occurs d (h ∙ ap (λ v. v ∷ us) same) in
+          W_beside x t b.0 o l b.1 b.2 b.3
+
+  -- within the right side of a production
+  within : (n : ℕ) (p : Production) → slice_get g n ≡ Some p → (before xs : List ℕ) → right_of p ≡ before ++ xs → (f : Forest) → IsForest g xs f → (behind x t : ℕ)
+    → (t ≡ behind → W p.left t) → StandsBehind g f behind x t → W x t
+  within n p numbered before [] right Empty d behind x t outer s = absurd s
+  within n p numbered before [] right (Leaf token others) d behind x t outer s = absurd d
+  within n p numbered before [] right (Node number children others) d behind x t outer s = absurd d
+  within n p numbered before (y ∷ ys) right Empty d behind x t outer s = absurd d
+  within n p numbered before (y ∷ ys) right (Leaf token others) d behind x t outer s =
+      within n p numbered (before ++ y ∷ []) ys (right ∙ sym (append_assoc before (y ∷ []) ys)) others d.2 behind x t outer s
+  within n p numbered before (y ∷ ys) right (Node number children others) d behind x t outer (inl here) =
+      let q : here.0 ≡ d.0 = cc (here.1, d.1) in
+      let same : y ≡ x = sym d.2 ∙ ap (λ (r : Production). r.left) (sym q) ∙ here.2 in
+      let left : is_left g y ≡ true = ap (is_left g) (sym d.2) ∙ is_left-numbered g number d.0 d.1 in
+      subst (λ z. W z t) same
+        (at_place y (record { number = n; production = p; numbered = numbered; split = record { before = before; after = ys; whole = right } }) left others d.4 behind t outer here.3)
+  within n p numbered before (y ∷ ys) right (Node number children others) d behind x t outer (inr (inl below)) =
+      let left : is_left g y ≡ true = ap (is_left g) (sym d.2) ∙ is_left-numbered g number d.0 d.1 in
+      within number d.0 d.1 [] (right_of d.0) refl children d.3 (first_or behind (leaves others)) x t
+        (λ e. subst (λ z. W z t) (sym d.2)
+          (at_place y (record { number = n; production = p; numbered = numbered; split = record { before = before; after = ys; whole = right } }) left others d.4 behind t outer e))
+        below
+  within n p numbered before (y ∷ ys) right (Node number children others) d behind x t outer (inr (inr beside_it)) =
+      within n p numbered (before ++ y ∷ []) ys (right ∙ sym (append_assoc before (y ∷ []) ys)) others d.4 behind x t outer beside_it
+
+  at_root : (root t : ℕ) → (t ≡ end_of_text → root ∷ [] ≡ start_of g) → t ≡ end_of_text → W root t
+  at_root root t at_end e = subst (λ u. W root u) (sym e) (W_end root (at_end e))
+
+  pub follow-complete : (x t : ℕ) → CanFollow g x t → W x t
+  follow-complete x t c = go c.tree c.derived c.behind
+    where
+      go : (f : Forest) → IsForest g (c.root ∷ []) f → StandsBehind g f end_of_text x t → W x t
+      go Empty d s = absurd d
+      go (Leaf token Empty) d s = absurd s
+      go (Leaf token (Leaf u o)) d s = absurd d.2
+      go (Leaf token (Node n ch o)) d s = absurd d.2
+      go (Node number children (Leaf u o)) d s = absurd d.4
+      go (Node number children (Node n ch o)) d s = absurd d.4
+      go (Node number children Empty) d (inl here) =
+          let q : here.0 ≡ d.0 = cc (here.1, d.1) in
+          let same : c.root ≡ x = sym d.2 ∙ ap (λ (r : Production). r.left) (sym q) ∙ here.2 in
+          subst (λ z. W z t) same (at_root c.root t c.at_end here.3)
+      go (Node number children Empty) d (inr (inl below)) =
+          within number d.0 d.1 [] (right_of d.0) refl children d.3 end_of_text x t
+            (λ e. subst (λ z. W z t) (sym d.2) (at_root c.root t c.at_end e)) below
+      go (Node number children Empty) d (inr (inr beside_it)) = absurd beside_it
 
 module _ (g : List Production) (lefts nothing : List ℕ) (are : AreProductions g) (lefts_are : (x : ℕ) → has lefts x ≡ is_left g x) (nothing_are : AreDerivingLefts false g nothing)
     (starts tokens beside ends first seeds : List Pair) (starts_are : (x y : ℕ) → has_pair starts x y ≡ starts_in g nothing x y) (tokens_are : (x t : ℕ) → has_pair tokens x t ≡ tokens_in g lefts x t)
@@ -78,67 +145,21 @@ module _ (g : List Production) (lefts nothing : List ℕ) (are : AreProductions 
       let f = CanFollow-inside g o.number o.production o.split.before x o.split.after b.3.0 t (inside x o b.2) b.3.1 c in
       subst (λ w. CanFollow g x (first_or t w)) b.3.2 f
 
-  -- what stands directly behind the symbol x at this place, or follows what holds it
-  at_place : (x : ℕ) (o : Place g x) → is_left g x ≡ true → (f : Forest) → IsForest g o.split.after f → (behind t : ℕ) → (t ≡ behind → Reaches ends seeds o.production.left t)
-    → t ≡ first_or behind (leaves f) → Reaches ends seeds x t
-  at_place x o l f d behind t outer e = go (leaves f) refl
-    where
-      go : (w : List ℕ) → leaves f ≡ w → Reaches ends seeds x t
-      go [] h =
-          Along (ends_are x o.production.left ∙ place_ends g lefts nothing lefts_are nothing_are x o l (f, d, h)) (outer (e ∙ ap (first_or behind) h))
-      go (u ∷ us) h =
-          let same : u ≡ t = sym (e ∙ ap (first_or behind) h) in
-          let occurs = occur g o.number o.production o.numbered (o.split.before ++ x ∷ []) o.split.after (o.split.whole ∙ sym (append_assoc o.split.before (x ∷ []) o.split.after)) in
-          let b = begun_split g lefts nothing are lefts_are nothing_are starts tokens starts_are tokens_are o.split.after t
-              (begins-begun g lefts nothing are lefts_are nothing_are starts tokens starts_are tokens_are o.split.after f t us occurs d (h ∙ ap (λ v. v ∷ us) same)) in
-          let beside_it : has_pair beside x b.0 ≡ true = beside_are x b.0 ∙ place_beside g lefts nothing lefts_are nothing_are x b.0 o l b.1 b.2 in
-          Seed (seeds_are x t ∙ or_right ((start == x) && (end_of_text == t)) (composed beside first x t) (split-composed beside first x b.0 t beside_it ((first_are b.0 t).1 b.3)))
+  reaches_end : (root : ℕ) → root ∷ [] ≡ start_of g → Reaches ends seeds root end_of_text
+  reaches_end root is =
+      let same : start ≡ root = (let h : root ∷ [] ≡ start ∷ [] = is ∙ is_start in cc) in
+      Seed (seeds_are root end_of_text ∙ or_left ((start == root) && (end_of_text == end_of_text)) (composed beside first root end_of_text)
+        (and_both (start == root) (end_of_text == end_of_text) (eq-eqb start root same) (eq-eqb end_of_text end_of_text refl)))
 
-  -- within the right side of a production
-  within : (n : ℕ) (p : Production) → slice_get g n ≡ Some p → (before xs : List ℕ) → right_of p ≡ before ++ xs → (f : Forest) → IsForest g xs f → (behind x t : ℕ)
-    → (t ≡ behind → Reaches ends seeds p.left t) → StandsBehind g f behind x t → Reaches ends seeds x t
-  within n p numbered before [] right Empty d behind x t outer s = absurd s
-  within n p numbered before [] right (Leaf token others) d behind x t outer s = absurd d
-  within n p numbered before [] right (Node number children others) d behind x t outer s = absurd d
-  within n p numbered before (y ∷ ys) right Empty d behind x t outer s = absurd d
-  within n p numbered before (y ∷ ys) right (Leaf token others) d behind x t outer s =
-      within n p numbered (before ++ y ∷ []) ys (right ∙ sym (append_assoc before (y ∷ []) ys)) others d.2 behind x t outer s
-  within n p numbered before (y ∷ ys) right (Node number children others) d behind x t outer (inl here) =
-      let q : here.0 ≡ d.0 = cc (here.1, d.1) in
-      let same : y ≡ x = sym d.2 ∙ ap (λ (r : Production). r.left) (sym q) ∙ here.2 in
-      let left : is_left g y ≡ true = ap (is_left g) (sym d.2) ∙ is_left-numbered g number d.0 d.1 in
-      subst (λ z. Reaches ends seeds z t) same
-        (at_place y (record { number = n; production = p; numbered = numbered; split = record { before = before; after = ys; whole = right } }) left others d.4 behind t outer here.3)
-  within n p numbered before (y ∷ ys) right (Node number children others) d behind x t outer (inr (inl below)) =
-      let left : is_left g y ≡ true = ap (is_left g) (sym d.2) ∙ is_left-numbered g number d.0 d.1 in
-      within number d.0 d.1 [] (right_of d.0) refl children d.3 (first_or behind (leaves others)) x t
-        (λ e. subst (λ z. Reaches ends seeds z t) (sym d.2)
-          (at_place y (record { number = n; production = p; numbered = numbered; split = record { before = before; after = ys; whole = right } }) left others d.4 behind t outer e))
-        below
-  within n p numbered before (y ∷ ys) right (Node number children others) d behind x t outer (inr (inr beside_it)) =
-      within n p numbered (before ++ y ∷ []) ys (right ∙ sym (append_assoc before (y ∷ []) ys)) others d.4 behind x t outer beside_it
+  reaches_beside : (x t y : ℕ) (o : Place g x) → is_left g x ≡ true → (s : Split o.split.after y) → DerivesNothing g s.before → Reaches starts tokens y t → Reaches ends seeds x t
+  reaches_beside x t y o l s d r =
+      let beside_it : has_pair beside x y ≡ true = beside_are x y ∙ place_beside g lefts nothing lefts_are nothing_are x y o l s d in
+      Seed (seeds_are x t ∙ or_right ((start == x) && (end_of_text == t)) (composed beside first x t) (split-composed beside first x y t beside_it ((first_are y t).1 r)))
 
-  at_root : (root t : ℕ) → (t ≡ end_of_text → root ∷ [] ≡ start_of g) → t ≡ end_of_text → Reaches ends seeds root t
-  at_root root t at_end e =
-      let same : root ≡ start = (let h : root ∷ [] ≡ start ∷ [] = at_end e ∙ is_start in cc) in
-      Seed (seeds_are root t ∙ or_left ((start == root) && (end_of_text == t)) (composed beside first root t)
-        (and_both (start == root) (end_of_text == t) (eq-eqb start root (sym same)) (eq-eqb end_of_text t (sym e))))
+  reaches_through : (x t : ℕ) (o : Place g x) → is_left g x ≡ true → DerivesNothing g o.split.after → Reaches ends seeds o.production.left t → Reaches ends seeds x t
+  reaches_through x t o l d r = Along (ends_are x o.production.left ∙ place_ends g lefts nothing lefts_are nothing_are x o l d) r
 
-  pub follow-complete : (x t : ℕ) → CanFollow g x t → Reaches ends seeds x t
-  follow-complete x t c = go c.tree c.derived c.behind
-    where
-      go : (f : Forest) → IsForest g (c.root ∷ []) f → StandsBehind g f end_of_text x t → Reaches ends seeds x t
-      go Empty d s = absurd d
-      go (Leaf token Empty) d s = absurd s
-      go (Leaf token (Leaf u o)) d s = absurd d.2
-      go (Leaf token (Node n ch o)) d s = absurd d.2
-      go (Node number children (Leaf u o)) d s = absurd d.4
-      go (Node number children (Node n ch o)) d s = absurd d.4
-      go (Node number children Empty) d (inl here) =
-          let q : here.0 ≡ d.0 = cc (here.1, d.1) in
-          let same : c.root ≡ x = sym d.2 ∙ ap (λ (r : Production). r.left) (sym q) ∙ here.2 in
-          subst (λ z. Reaches ends seeds z t) same (at_root c.root t c.at_end here.3)
-      go (Node number children Empty) d (inr (inl below)) =
-          within number d.0 d.1 [] (right_of d.0) refl children d.3 end_of_text x t
-            (λ e. subst (λ z. Reaches ends seeds z t) (sym d.2) (at_root c.root t c.at_end e)) below
-      go (Node number children Empty) d (inr (inr beside_it)) = absurd beside_it
+  pub reaches-follow : (x t : ℕ) → CanFollow g x t → Reaches ends seeds x t
+  reaches-follow x t c =
+      follow-complete g (Reaches starts tokens) (Reaches ends seeds)
+        (reaches-begun g lefts nothing are lefts_are nothing_are starts tokens starts_are tokens_are) reaches_end reaches_beside reaches_through x t c

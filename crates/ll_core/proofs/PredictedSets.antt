@@ -16,8 +16,8 @@ use Rattle.ll_core.proofs.Pairs.{and_true, or_true, or_left, or_right, and_both}
 use Rattle.ll_core.proofs.Placing.{Place}
 use Rattle.ll_core.proofs.Deriving.{join_nothing}
 use Rattle.ll_core.proofs.Lookups.{right_side}
-use Rattle.ll_core.proofs.FirstSets.{begins-sound, begins-complete, begins_whole, rest_sentence}
-use Rattle.ll_core.proofs.FollowSets.{follow-sound, follow-complete}
+use Rattle.ll_core.proofs.FirstSets.{begins-sound, reaches-complete, begins_whole, rest_sentence}
+use Rattle.ll_core.proofs.FollowSets.{follow-sound, reaches-follow}
 use Rattle.ll_core.proofs.Shifts.{is_left-numbered}
 
 start_is : (g : List Production) (d : Production) → 0 < length g → start_of g ≡ (get_or g 0 d).left ∷ []
@@ -39,10 +39,10 @@ true_sets g lefts nothing are lefts_are nothing_are starts tokens beside ends fi
       first_sound = λ x t h. begins-sound g lefts nothing are lefts_are nothing_are starts tokens starts_are tokens_are x t ((first_are x t).0 h);
       first_complete = λ n p before x after t numbered whole b.
         let o : Place g x = record { number = n; production = p; numbered = numbered; split = record { before = before; after = after; whole = whole } } in
-        (first_are x t).1 (begins-complete g lefts nothing are lefts_are nothing_are starts tokens starts_are tokens_are x t o b);
+        (first_are x t).1 (reaches-complete g lefts nothing are lefts_are nothing_are starts tokens starts_are tokens_are x t o b);
       follow_are = λ x t.
         ((λ h. follow-sound g lefts nothing are lefts_are nothing_are starts tokens beside ends first seeds starts_are tokens_are beside_are ends_are first_are start is_start left seeds_are x t ((follow_are x t).0 h)),
-         (λ c. (follow_are x t).1 (follow-complete g lefts nothing are lefts_are nothing_are starts tokens beside ends first seeds starts_are tokens_are beside_are ends_are first_are start is_start left seeds_are x t c)))
+         (λ c. (follow_are x t).1 (reaches-follow g lefts nothing are lefts_are nothing_are starts tokens beside ends first seeds starts_are tokens_are beside_are ends_are first_are start is_start left seeds_are x t c)))
     }
 
 module _ (g : List Production) (nothing : List ℕ) (first follow : List Pair) (are : AreProductions g) (sets : ArePredictionSets g nothing first follow) where
