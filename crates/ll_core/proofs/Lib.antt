@@ -6,6 +6,8 @@ pub mod FirstSets
 pub mod FollowSets
 pub mod Following
 pub mod Forests
+pub mod ListedTests
+pub mod ListedTruth
 pub mod Lookups
 pub mod Pairs
 pub mod Placing

@@ -2,6 +2,7 @@ pub mod Answers
 pub mod Checks
 pub mod Grammars
 pub mod Keys
+pub mod ListedSets
 pub mod Members
 pub mod Places
 pub mod Predictions
