@@ -6,6 +6,7 @@ pub mod FirstSets
 pub mod FollowSets
 pub mod Following
 pub mod Forests
+pub mod ListedFollow
 pub mod ListedTests
 pub mod ListedTruth
 pub mod Lookups

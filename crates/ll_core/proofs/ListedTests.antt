@@ -9,7 +9,7 @@ use Rattle.ll_core.specs.Grammars.{AreApart}
 use Rattle.ll_core.specs.Trees.{right_of, is_left, end_of_text}
 use Rattle.ll_core.specs.Places.{has_all}
 use Rattle.ll_core.specs.Sets.{all_ready}
-use Rattle.ll_core.specs.ListedSets.{Group, tokens_of, with_token, passes, within, rise_from, row_tokens}
+use Rattle.ll_core.specs.ListedSets.{Group, TokenMember, tokens_of, with_token, grouped, passes, within, rise_from, row_tokens}
 use Rattle.ll_core.proofs.Pairs.{and_true, or_true, or_left, or_right, and_both, same_bool}
 
 pub if_true : (b c : Bool) → (if b then c else false) ≡ true → (b ≡ true) × (c ≡ true)
@@ -142,3 +142,24 @@ lefts_of (p ∷ ps) = p.left ∷ lefts_of ps
 pub lefts_of-is_left : (g : List Production) (x : ℕ) → has (lefts_of g) x ≡ is_left g x
 lefts_of-is_left [] x = refl
 lefts_of-is_left (p ∷ ps) x = ap (λ b. (p.left == x) || b) (lefts_of-is_left ps x)
+
+pub with_token-keeps : (groups : List Group) (symbol token x t : ℕ) → has (tokens_of groups x) t ≡ true → has (tokens_of (with_token groups symbol token) x) t ≡ true
+with_token-keeps [] symbol token x t h = absurd (true≢false (sym h))
+with_token-keeps (r ∷ rs) symbol token x t h = go (r.symbol == symbol) (with_token-keeps rs symbol token x t)
+  where
+    go : (b : Bool) → (has (tokens_of rs x) t ≡ true → has (tokens_of (with_token rs symbol token) x) t ≡ true)
+      → has (tokens_of (if b then record { symbol = r.symbol; tokens = token ∷ r.tokens } ∷ rs else r ∷ with_token rs symbol token) x) t ≡ true
+    go true rest = here (r.symbol == x) h
+      where
+        here : (c : Bool) → has (if c then r.tokens else tokens_of rs x) t ≡ true → has (if c then token ∷ r.tokens else tokens_of rs x) t ≡ true
+        here true m = or_right (token == t) (has r.tokens t) m
+        here false m = m
+    go false rest = here (r.symbol == x) h
+      where
+        here : (c : Bool) → has (if c then r.tokens else tokens_of rs x) t ≡ true → has (if c then r.tokens else tokens_of (with_token rs symbol token) x) t ≡ true
+        here true m = m
+        here false m = rest m
+
+pub grouped-keeps : (groups : List Group) (ms : List TokenMember) (x t : ℕ) → has (tokens_of groups x) t ≡ true → has (tokens_of (grouped groups ms) x) t ≡ true
+grouped-keeps groups [] x t h = h
+grouped-keeps groups (m ∷ ms) x t h = grouped-keeps (with_token groups m.symbol m.token) ms x t (with_token-keeps groups m.symbol m.token x t h)

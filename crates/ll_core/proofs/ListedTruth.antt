@@ -58,7 +58,7 @@ listed_nothing g seen sound [] h = (Empty, tt, refl)
 listed_nothing g seen sound (x ∷ xs) h =
     let both = and_true (has seen x) (has_all seen xs) h in join_nothing g (x ∷ []) xs (sound x both.0) (listed_nothing g seen sound xs both.1)
 
-nothing-sound : (g : List Production) (seen : List ℕ) → ((x : ℕ) → has seen x ≡ true → DerivesNothing g (x ∷ [])) → (ms : List Member) → are_nothing g seen ms ≡ true
+pub nothing-sound : (g : List Production) (seen : List ℕ) → ((x : ℕ) → has seen x ≡ true → DerivesNothing g (x ∷ [])) → (ms : List Member) → are_nothing g seen ms ≡ true
   → (x : ℕ) → has (symbols_in ms) x ≡ true → DerivesNothing g (x ∷ [])
 nothing-sound g seen sound [] h x m = absurd (true≢false (sym m))
 nothing-sound g seen sound (y ∷ ys) h x m =
@@ -69,11 +69,11 @@ nothing-sound g seen sound (y ∷ ys) h x m =
     cons-has (symbols_in ys) y.symbol x (λ z. DerivesNothing g (z ∷ [])) here
       (λ z l. nothing-sound g (y.symbol ∷ seen) (λ w. cons-has seen y.symbol w (λ z. DerivesNothing g (z ∷ [])) here sound) ys both.1 z l) m
 
-none-listed : (x : ℕ) {P : Type 0} → has [] x ≡ true → P
+pub none-listed : (x : ℕ) {P : Type 0} → has [] x ≡ true → P
 none-listed x h = absurd (true≢false (sym h))
 
 -- productions that are well formed, with listed sentences
-productions-true : (g : List Production) (ms : List Member) → nat_lt 0 (length g) ≡ true → are_formed (symbols_in ms) g ≡ true → are_sentences g [] ms ≡ true → AreProductions g
+pub productions-true : (g : List Production) (ms : List Member) → nat_lt 0 (length g) ≡ true → are_formed (symbols_in ms) g ≡ true → are_sentences g [] ms ≡ true → AreProductions g
 productions-true g ms some formed sentences = record {
   some_production = ltb-true 0 (length g) some;
   lengths = λ k d l. leb-true (get_or g k d).length 12 (parts k d l).0;
