@@ -7,6 +7,7 @@ pub mod FollowSets
 pub mod Following
 pub mod Forests
 pub mod ListedFollow
+pub mod ListedLaw
 pub mod ListedTests
 pub mod ListedTruth
 pub mod Lookups

@@ -7,6 +7,7 @@ mod derivation;
 mod admissible;
 mod derivable;
 mod grammar;
+mod listed;
 mod parser;
 mod places;
 mod production;
@@ -17,5 +18,6 @@ mod symbols;
 
 pub use derivation::Derivation;
 pub use grammar::{Grammar, GrammarStop};
+pub use listed::well_listed_sets_are_true;
 pub use parser::{NESTING_LIMIT, ParseStop, parse};
 pub use production::{END_OF_TEXT, Production, Row};
