@@ -1,5 +1,5 @@
 -- A relation to which a loop adds what each symbol of a list gives.
-use Rattle.std.proofs.Common.{◌≡◌, ◌==◌, ◌&&◌, ◌||◌, ℕ, suc, ◌+◌, ◌<◌, ◌≤◌, Bool, true, false, List, [], ◌∷◌, ◌++◌, drop, take, length, get_or, refl, ap, sym, ◌∙◌, subst, drop-cons, add-one, take_all, if◌then◌else◌}
+use Rattle.std.proofs.Common.{◌≡◌, ◌||◌, ℕ, ◌+◌, ◌<◌, ◌≤◌, Bool, true, false, List, [], ◌∷◌, drop, take, length, get_or, refl, ap, sym, ◌∙◌, drop-cons, add-one, take_all}
 use Rattle.std.proofs.lemmas.List.{take_more}
 use Rattle.std.proofs.lemmas.List.Folds.{list_any-append}
 use Rattle.std.proofs.Math.ListN.{drop_of_length-le}
@@ -26,21 +26,21 @@ Adding-start test old xs = record { so_far = λ x y. refl }
 module _ (test : List ℕ → ℕ → ℕ → Bool) (old now : List Pair) (xs : List ℕ) (i : ℕ) (before : Adding test old now xs i) where
   -- a symbol gives what `here` says, and the rest follows
   pub Adding-step : (new : List Pair) (here : ℕ → ℕ → Bool) → i < length xs
-    → ((x y : ℕ) → test (get_or xs i 0 ∷ drop (i + 1) xs) x y ≡ (here x y || test (drop (i + 1) xs) x y))
-    → ((x y : ℕ) → has_pair new x y ≡ (has_pair now x y || here x y)) → Adding test old new xs (i + 1)
+      → ((x y : ℕ) → test (get_or xs i 0 ∷ drop (i + 1) xs) x y ≡ (here x y || test (drop (i + 1) xs) x y))
+      → ((x y : ℕ) → has_pair new x y ≡ (has_pair now x y || here x y)) → Adding test old new xs (i + 1)
   Adding-step new here lt cons new_is = record {
     so_far = λ x y.
-      ap (λ b. b || test (drop (i + 1) xs) x y) (new_is x y)
-      ∙ or_assoc (has_pair now x y) (here x y) (test (drop (i + 1) xs) x y)
-      ∙ ap (λ b. has_pair now x y || b) (sym (cons x y))
-      ∙ ap (λ ys. has_pair now x y || test ys x y) (sym (next_is xs i lt))
-      ∙ before.so_far x y
+        ap (λ b. b || test (drop (i + 1) xs) x y) (new_is x y)
+        ∙ or_assoc (has_pair now x y) (here x y) (test (drop (i + 1) xs) x y)
+        ∙ ap (λ b. has_pair now x y || b) (sym (cons x y))
+        ∙ ap (λ ys. has_pair now x y || test ys x y) (sym (next_is xs i lt))
+        ∙ before.so_far x y;
   }
 
   -- a symbol gives the last that is to be added
   pub Adding-stop : (new : List Pair) (here : ℕ → ℕ → Bool) → i < length xs
-    → ((x y : ℕ) → test (get_or xs i 0 ∷ drop (i + 1) xs) x y ≡ here x y)
-    → ((x y : ℕ) → has_pair new x y ≡ (has_pair now x y || here x y)) → (x y : ℕ) → has_pair new x y ≡ (has_pair old x y || test xs x y)
+      → ((x y : ℕ) → test (get_or xs i 0 ∷ drop (i + 1) xs) x y ≡ here x y)
+      → ((x y : ℕ) → has_pair new x y ≡ (has_pair now x y || here x y)) → (x y : ℕ) → has_pair new x y ≡ (has_pair old x y || test xs x y)
   Adding-stop new here lt last new_is x y =
       new_is x y ∙ ap (λ b. has_pair now x y || b) (sym (last x y)) ∙ ap (λ ys. has_pair now x y || test ys x y) (sym (next_is xs i lt)) ∙ before.so_far x y
 
@@ -51,7 +51,7 @@ module _ (test : List ℕ → ℕ → ℕ → Bool) (old now : List Pair) (xs : 
 
 -- the same over the productions of a grammar
 pub gathered : (test : Production → Bool) (g : List Production) (i : ℕ) (d : Production) (now new : Bool) → i < length g
-  → now ≡ list_any test (take i g) → new ≡ (now || test (get_or g i d)) → new ≡ list_any test (take (i + 1) g)
+    → now ≡ list_any test (take i g) → new ≡ (now || test (get_or g i d)) → new ≡ list_any test (take (i + 1) g)
 gathered test g i d now new lt before is =
     is ∙ ap (λ b. b || test (get_or g i d)) before ∙ ap (λ b. list_any test (take i g) || b) (sym (or_false (test (get_or g i d))))
     ∙ sym (list_any-append test (take i g) (get_or g i d ∷ [])) ∙ ap (list_any test) (sym (take_more g i d lt))

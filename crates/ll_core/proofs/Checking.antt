@@ -1,5 +1,5 @@
 -- What the checks of productions and rows say, put together.
-use Rattle.std.proofs.Common.{◌≡◌, ◌≢◌, ◌==◌, ◌↔◌, ◌<◌, ◌≤◌, ◌+◌, ◌⊎◌, ⊎_elim, inl, inr, ℕ, zero, suc, true, false, Bool, List, [], ◌∷◌, ◌++◌, take, length, get_or, refl, ap, sym, ◌∙◌, subst, Some, slice_get, All, Contains, AllPairs, arith, eqb-true, take_all}
+use Rattle.std.proofs.Common.{◌≡◌, ◌==◌, ◌↔◌, ◌<◌, ◌≤◌, ◌+◌, ◌⊎◌, ⊎_elim, ℕ, true, List, [], ◌∷◌, take, length, get_or, refl, ap, sym, ◌∙◌, subst, Some, slice_get, All, AllPairs, arith, eqb-true, take_all}
 use Rattle.std.proofs.lemmas.List.{take_more}
 use Rattle.std.proofs.lemmas.List.Elements.{All-push}
 use Rattle.std.proofs.lemmas.Option.{slice_get-get_or, slice_get_within, get_or_from_slice_get}
@@ -7,7 +7,7 @@ use Rattle.ll_core.specs.declared.production.Production.{Production}
 use Rattle.ll_core.specs.declared.production.Row.{Row}
 use Rattle.ll_core.specs.declared.relation.Pair.{Pair}
 use Rattle.ll_core.specs.Members.{has}
-use Rattle.ll_core.specs.Trees.{right_of, is_left, end_of_text}
+use Rattle.ll_core.specs.Trees.{right_of, is_left}
 use Rattle.ll_core.specs.Predictions.{HasSentence, IsPrediction}
 use Rattle.ll_core.specs.Grammars.{AreProductions, IsGrammar, AreApart}
 use Rattle.ll_core.specs.Tables.{production_at}
@@ -32,10 +32,10 @@ productions-are g set some formed derives listed = record {
   lefts = λ k d l. (formed k d l).left;
   rights = λ k d l. (formed k d l).right;
   sentences = λ x h.
-    let a = any_place (λ p. p.left == x) g h in
-    let same : get_or g a.0 a.1 ≡ a.1 = get_or_from_slice_get g a.0 a.1 a.1 a.2 in
-    let l : has set a.1.left ≡ true = ap (λ (p : Production). has set p.left) (sym same) ∙ listed a.0 a.1 (slice_get_within g a.0 a.1 a.2) in
-    subst (λ y. HasSentence g (y ∷ [])) (eqb-true a.1.left x a.3) (derives.0 a.1.left l)
+      let a = any_place (λ p. p.left == x) g h in
+      let same : get_or g a.0 a.1 ≡ a.1 = get_or_from_slice_get g a.0 a.1 a.1 a.2 in
+      let l : has set a.1.left ≡ true = ap (λ (p : Production). has set p.left) (sym same) ∙ listed a.0 a.1 (slice_get_within g a.0 a.1 a.2) in
+      subst (λ y. HasSentence g (y ∷ [])) (eqb-true a.1.left x a.3) (derives.0 a.1.left l);
 }
 
 pub productions-listed : (g : List Production) (set : List ℕ) → AreDerivingLefts true g set → AreProductions g → AreListed g set
@@ -48,23 +48,24 @@ productions-formed g are k d l = record { length = are.lengths k d l; left = are
 
 module _ (g : List Production) (nothing : List ℕ) (first follow : List Pair) (are : AreProductions g) (sets : ArePredictionSets g nothing first follow) where
   pub row-predicted : (row : Row) (n : ℕ) (d : Production) → n ≡ row.production → n < length g → (get_or g n d).left ≡ row.left
-    → (is_predicted nothing first follow (get_or g n d).left row.token (right_of (get_or g n d)) ≡ true) ↔ IsPrediction g row
+      → (is_predicted nothing first follow (get_or g n d).left row.token (right_of (get_or g n d)) ≡ true) ↔ IsPrediction g row
   row-predicted row n d same lt left =
       subst (λ m. (is_predicted nothing first follow (get_or g n d).left row.token (right_of (get_or g n d)) ≡ true)
-          ↔ IsPrediction g (record { left = row.left; token = row.token; production = m })) same
-        (predicted-is g nothing first follow are sets n (get_or g n d) row.left row.token (slice_get-get_or g n d lt) left)
+      ↔ IsPrediction g (record { left = row.left; token = row.token; production = m })) same
+      (predicted-is g nothing first follow are sets n (get_or g n d) row.left row.token (slice_get-get_or g n d lt) left)
 
   pub covered_more : (rows : List Row) (i : ℕ) (d : Production) → i < length g → AreCoveredBelow nothing first follow g rows i
-    → IsCovered nothing first follow (get_or g i d).left i rows (right_of (get_or g i d)) → AreCoveredBelow nothing first follow g rows (i + 1)
+      → IsCovered nothing first follow (get_or g i d).left i rows (right_of (get_or g i d)) → AreCoveredBelow nothing first follow g rows (i + 1)
   covered_more rows i d lt below here k p l e = ⊎_elim (λ b. below k p b e) (λ at. at_last k p at e) (last k l)
     where
       last : (k : ℕ) → k < i + 1 → (k < i) ⊎ (k ≡ i)
       last k l = grind arith
+
       at_last : (k : ℕ) (p : Production) → k ≡ i → slice_get g k ≡ Some p → IsCovered nothing first follow p.left k rows (right_of p)
       at_last k p at e =
           let same : get_or g i d ≡ p = ap (λ j. get_or g j d) (sym at) ∙ get_or_from_slice_get g k p d e in
           subst (λ j. IsCovered nothing first follow p.left j rows (right_of p)) (sym at)
-            (subst (λ (q : Production). IsCovered nothing first follow q.left i rows (right_of q)) same here)
+          (subst (λ (q : Production). IsCovered nothing first follow q.left i rows (right_of q)) same here)
 
   pub covered-found : (rows : List Row) (i : ℕ) → length g ≤ i → AreCoveredBelow nothing first follow g rows i → AreAllFound g rows
   covered-found rows i le below row r =
@@ -82,8 +83,10 @@ module _ (g : List Production) (nothing : List ℕ) (first follow : List Pair) (
 -- the four checks make a grammar, and a grammar passes them
 pub grammar-is : (g : List Production) (rows : List Row) → AreProductions g → All (λ row. IsPrediction g row) rows → AllPairs AreApart rows → AreAllFound g rows → IsGrammar g rows
 grammar-is g rows are sound apart found = record {
-  productions_are = are; sound = sound; admissible = apart;
-  complete = λ row r. production_at-Contains rows row.left row.token row.production (found row r)
+  productions_are = are;
+  sound = sound;
+  admissible = apart;
+  complete = λ row r. production_at-Contains rows row.left row.token row.production (found row r);
 }
 
 pub grammar-found : (g : List Production) (rows : List Row) → IsGrammar g rows → AreAllFound g rows

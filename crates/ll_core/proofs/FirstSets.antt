@@ -1,9 +1,9 @@
 -- What leads to a token by the symbols that stand first is what can begin with it.
-use Rattle.std.proofs.Common.{◌≡◌, ◌≢◌, ◌<◌, ℕ, true, false, Bool, List, [], ◌∷◌, ◌++◌, refl, ap, sym, ◌∙◌, subst, Some, slice_get, All, append_assoc, append-nil}
+use Rattle.std.proofs.Common.{◌≡◌, ℕ, false, List, [], ◌∷◌, ◌++◌, refl, ap, sym, ◌∙◌, subst, Some, slice_get, append-nil}
 use Rattle.ll_core.specs.declared.production.Production.{Production}
 use Rattle.ll_core.specs.declared.relation.Pair.{Pair}
 use Rattle.ll_core.specs.Members.{has}
-use Rattle.ll_core.specs.Trees.{Forest, Empty, Leaf, Node, IsForest, leaves, right_of, is_left, end_of_text}
+use Rattle.ll_core.specs.Trees.{Forest, Empty, Leaf, Node, IsForest, leaves, right_of, is_left}
 use Rattle.ll_core.specs.Predictions.{DerivesNothing, HasSentence, CanBegin}
 use Rattle.ll_core.specs.Grammars.{AreProductions}
 use Rattle.ll_core.specs.Sets.{AreDerivingLefts}
@@ -24,10 +24,12 @@ rest_sentence g xs y ys s =
 -- what begins behind symbols that derive nothing begins the whole
 pub begins_whole : (g : List Production) (xs : List ℕ) (y : ℕ) (ys : List ℕ) (t : ℕ) → DerivesNothing g xs → CanBegin g (y ∷ []) t → HasSentence g ys → CanBegin g (xs ++ y ∷ ys) t
 begins_whole g xs y ys t nothing begin rest =
-    let back = join begin.0 rest.0 in
-    (join nothing.0 back, begin.1 ++ leaves rest.0,
-     IsForest-join g xs (y ∷ ys) nothing.0 back nothing.1 (IsForest-join g (y ∷ []) ys begin.0 rest.0 begin.2 rest.1),
-     leaves-join nothing.0 back ∙ ap (λ w. w ++ leaves back) nothing.2 ∙ leaves-join begin.0 rest.0 ∙ ap (λ w. w ++ leaves rest.0) begin.3)
+    let back = join begin.0 rest.0 in (
+      join nothing.0 back,
+      begin.1 ++ leaves rest.0,
+      IsForest-join g xs (y ∷ ys) nothing.0 back nothing.1 (IsForest-join g (y ∷ []) ys begin.0 rest.0 begin.2 rest.1),
+      leaves-join nothing.0 back ∙ ap (λ w. w ++ leaves back) nothing.2 ∙ leaves-join begin.0 rest.0 ∙ ap (λ w. w ++ leaves rest.0) begin.3,
+    )
 
 -- a production begins with what its right side begins with
 pub begins_left : (g : List Production) (n : ℕ) (p : Production) (t : ℕ) → slice_get g n ≡ Some p → CanBegin g (right_of p) t → CanBegin g (p.left ∷ []) t
@@ -65,17 +67,17 @@ module _ (g : List Production) (B : ℕ → ℕ → Type 0) (B_token : (x : ℕ)
   begins-begun (x ∷ xs) (Leaf token others) t ts o d e =
       let same : x ≡ t = (let h : token ≡ t = cc in sym d.0 ∙ h) in
       begun_here x xs t (subst (λ u. B x u) same
-        (B_token x o.0 d.1.0))
+      (B_token x o.0 d.1.0))
   begins-begun (x ∷ xs) (Node number children others) t ts o d e =
       go (leaves children) refl
-        (λ us h. begins-begun (right_of d.0) children t us (occur g number d.0 d.1 [] (right_of d.0) refl) d.3 h)
-        (λ h. begins-begun xs others t ts o.1 d.4 h)
+      (λ us h. begins-begun (right_of d.0) children t us (occur g number d.0 d.1 [] (right_of d.0) refl) d.3 h)
+      (λ h. begins-begun xs others t ts o.1 d.4 h)
     where
       go : (w : List ℕ) → leaves children ≡ w → ((us : List ℕ) → leaves children ≡ t ∷ us → Begun (right_of d.0) t)
-        → (leaves others ≡ t ∷ ts → Begun xs t) → Begun (x ∷ xs) t
+          → (leaves others ≡ t ∷ ts → Begun xs t) → Begun (x ∷ xs) t
       go [] h below beside =
           begun_more x xs t (Node number children Empty, (d.0, d.1, d.2, d.3, tt), append-nil (leaves children) ∙ h)
-            (beside (sym (ap (λ w. w ++ leaves others) h) ∙ e))
+          (beside (sym (ap (λ w. w ++ leaves others) h) ∙ e))
       go (u ∷ us) h below beside =
           let k : u ∷ (us ++ leaves others) ≡ t ∷ ts = sym (ap (λ w. w ++ leaves others) h) ∙ e in
           let s : u ≡ t = cc in
@@ -109,7 +111,7 @@ module _ (g : List Production) (lefts nothing : List ℕ) (are : AreProductions 
       let rest = rest_sentence g o.split.before y o.split.after (subst (λ xs. HasSentence g xs) o.split.whole (right_side g o.number o.production are o.numbered)) in
       let whole = begins_whole g o.split.before y o.split.after t s.2 (begins-sound y t r) rest.2 in
       subst (λ z. CanBegin g (z ∷ []) t) s.1
-        (begins_left g o.number o.production t o.numbered (subst (λ xs. CanBegin g xs t) (sym o.split.whole) whole))
+      (begins_left g o.number o.production t o.numbered (subst (λ xs. CanBegin g xs t) (sym o.split.whole) whole))
 
   reaches_token : (x : ℕ) → Place g x → is_left g x ≡ false → Reaches starts tokens x x
   reaches_token x o l = Seed (tokens_are x x ∙ place_tokens g lefts nothing lefts_are nothing_are x o l)
@@ -121,6 +123,6 @@ module _ (g : List Production) (lefts nothing : List ℕ) (are : AreProductions 
   reaches-complete x t o b = begins-complete g (Reaches starts tokens) reaches_token reaches_left x t o b
 
   pub reaches-begun : (xs : List ℕ) (f : Forest) (t : ℕ) (ts : List ℕ) → Occur g xs → IsForest g xs f → leaves f ≡ t ∷ ts
-    → (y : ℕ) × (s : Split xs y) × DerivesNothing g s.before × Reaches starts tokens y t
+      → (y : ℕ) × (s : Split xs y) × DerivesNothing g s.before × Reaches starts tokens y t
   reaches-begun xs f t ts o d e =
       begun_split g (Reaches starts tokens) reaches_token reaches_left xs t (begins-begun g (Reaches starts tokens) reaches_token reaches_left xs f t ts o d e)

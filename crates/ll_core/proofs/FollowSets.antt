@@ -1,5 +1,5 @@
 -- What leads to a token by the symbols that stand last is what it can follow.
-use Rattle.std.proofs.Common.{◌≡◌, ◌≢◌, ◌==◌, ◌&&◌, ◌||◌, ◌<◌, ◌↔◌, ℕ, zero, suc, true, false, Bool, List, [], ◌∷◌, ◌++◌, refl, ap, sym, ◌∙◌, subst, Some, slice_get, inl, inr, ◌⊎◌, ⊎_elim, true≢false, append_assoc, append-nil, eq-eqb, eqb-true}
+use Rattle.std.proofs.Common.{◌≡◌, ◌==◌, ◌&&◌, ◌||◌, ◌↔◌, ℕ, true, false, List, [], ◌∷◌, ◌++◌, refl, ap, sym, ◌∙◌, subst, Some, slice_get, inl, inr, ◌⊎◌, true≢false, append_assoc, eq-eqb, eqb-true}
 use Rattle.ll_core.specs.declared.production.Production.{Production}
 use Rattle.ll_core.specs.declared.relation.Pair.{Pair}
 use Rattle.ll_core.specs.Members.{has}
@@ -23,7 +23,7 @@ composed-split a [] x t h = absurd (true≢false (sym h))
 composed-split a (p ∷ ps) x t h = go (or_true ((p.to == t) && has_pair a x p.from) (composed a ps x t) h) (composed-split a ps x t)
   where
     go : (((p.to == t) && has_pair a x p.from) ≡ true) ⊎ (composed a ps x t ≡ true)
-      → (composed a ps x t ≡ true → (z : ℕ) × (has_pair a x z ≡ true) × (has_pair ps z t ≡ true)) → (z : ℕ) × (has_pair a x z ≡ true) × (has_pair (p ∷ ps) z t ≡ true)
+        → (composed a ps x t ≡ true → (z : ℕ) × (has_pair a x z ≡ true) × (has_pair ps z t ≡ true)) → (z : ℕ) × (has_pair a x z ≡ true) × (has_pair (p ∷ ps) z t ≡ true)
     go (inl here) rest =
         let both = and_true (p.to == t) (has_pair a x p.from) here in
         (p.from, both.1, or_left ((p.from == p.from) && (p.to == t)) (has_pair ps p.from t) (and_both (p.from == p.from) (p.to == t) (eq-eqb p.from p.from refl) both.0))
@@ -37,7 +37,7 @@ split-composed a (p ∷ ps) x z t l r = go (or_true ((p.from == z) && (p.to == t
     go (inl here) rest =
         let both = and_true (p.from == z) (p.to == t) here in
         or_left ((p.to == t) && has_pair a x p.from) (composed a ps x t)
-          (and_both (p.to == t) (has_pair a x p.from) both.1 (ap (has_pair a x) (eqb-true p.from z both.0) ∙ l))
+        (and_both (p.to == t) (has_pair a x p.from) both.1 (ap (has_pair a x) (eqb-true p.from z both.0) ∙ l))
     go (inr there) rest = or_right ((p.to == t) && has_pair a x p.from) (composed a ps x t) (rest there)
 
 -- what can follow a left side is in any relation that has the end with the start, with a left side what can begin
@@ -49,7 +49,7 @@ module _ (g : List Production) (B W : ℕ → ℕ → Type 0)
     (W_through : (x t : ℕ) (o : Place g x) → is_left g x ≡ true → DerivesNothing g o.split.after → W o.production.left t → W x t) where
   -- what stands directly behind the symbol x at this place, or follows what holds it
   at_place : (x : ℕ) (o : Place g x) → is_left g x ≡ true → (f : Forest) → IsForest g o.split.after f → (behind t : ℕ) → (t ≡ behind → W o.production.left t)
-    → t ≡ first_or behind (leaves f) → W x t
+      → t ≡ first_or behind (leaves f) → W x t
   at_place x o l f d behind t outer e = go (leaves f) refl
     where
       go : (w : List ℕ) → leaves f ≡ w → W x t
@@ -63,7 +63,7 @@ module _ (g : List Production) (B W : ℕ → ℕ → Type 0)
 
   -- within the right side of a production
   within : (n : ℕ) (p : Production) → slice_get g n ≡ Some p → (before xs : List ℕ) → right_of p ≡ before ++ xs → (f : Forest) → IsForest g xs f → (behind x t : ℕ)
-    → (t ≡ behind → W p.left t) → StandsBehind g f behind x t → W x t
+      → (t ≡ behind → W p.left t) → StandsBehind g f behind x t → W x t
   within n p numbered before [] right Empty d behind x t outer s = absurd s
   within n p numbered before [] right (Leaf token others) d behind x t outer s = absurd d
   within n p numbered before [] right (Node number children others) d behind x t outer s = absurd d
@@ -75,13 +75,13 @@ module _ (g : List Production) (B W : ℕ → ℕ → Type 0)
       let same : y ≡ x = sym d.2 ∙ ap (λ (r : Production). r.left) (sym q) ∙ here.2 in
       let left : is_left g y ≡ true = ap (is_left g) (sym d.2) ∙ is_left-numbered g number d.0 d.1 in
       subst (λ z. W z t) same
-        (at_place y (record { number = n; production = p; numbered = numbered; split = record { before = before; after = ys; whole = right } }) left others d.4 behind t outer here.3)
+      (at_place y (record { number = n; production = p; numbered = numbered; split = record { before = before; after = ys; whole = right } }) left others d.4 behind t outer here.3)
   within n p numbered before (y ∷ ys) right (Node number children others) d behind x t outer (inr (inl below)) =
       let left : is_left g y ≡ true = ap (is_left g) (sym d.2) ∙ is_left-numbered g number d.0 d.1 in
       within number d.0 d.1 [] (right_of d.0) refl children d.3 (first_or behind (leaves others)) x t
-        (λ e. subst (λ z. W z t) (sym d.2)
-          (at_place y (record { number = n; production = p; numbered = numbered; split = record { before = before; after = ys; whole = right } }) left others d.4 behind t outer e))
-        below
+      (λ e. subst (λ z. W z t) (sym d.2)
+      (at_place y (record { number = n; production = p; numbered = numbered; split = record { before = before; after = ys; whole = right } }) left others d.4 behind t outer e))
+      below
   within n p numbered before (y ∷ ys) right (Node number children others) d behind x t outer (inr (inr beside_it)) =
       within n p numbered (before ++ y ∷ []) ys (right ∙ sym (append_assoc before (y ∷ []) ys)) others d.4 behind x t outer beside_it
 
@@ -104,7 +104,7 @@ module _ (g : List Production) (B W : ℕ → ℕ → Type 0)
           subst (λ z. W z t) same (at_root c.root t c.at_end here.3)
       go (Node number children Empty) d (inr (inl below)) =
           within number d.0 d.1 [] (right_of d.0) refl children d.3 end_of_text x t
-            (λ e. subst (λ z. W z t) (sym d.2) (at_root c.root t c.at_end e)) below
+          (λ e. subst (λ z. W z t) (sym d.2) (at_root c.root t c.at_end e)) below
       go (Node number children Empty) d (inr (inr beside_it)) = absurd beside_it
 
 module _ (g : List Production) (lefts nothing : List ℕ) (are : AreProductions g) (lefts_are : (x : ℕ) → has lefts x ≡ is_left g x) (nothing_are : AreDerivingLefts false g nothing)
@@ -113,7 +113,6 @@ module _ (g : List Production) (lefts nothing : List ℕ) (are : AreProductions 
     (first_are : (x t : ℕ) → (has_pair first x t ≡ true) ↔ Reaches starts tokens x t)
     (start : ℕ) (is_start : start_of g ≡ start ∷ []) (start_left : is_left g start ≡ true)
     (seeds_are : (x t : ℕ) → has_pair seeds x t ≡ (((start == x) && (end_of_text == t)) || composed beside first x t)) where
-
   -- what stands round a symbol of a right side
   inside : (x : ℕ) (o : Place g x) → is_left g x ≡ true → Inside g o.number o.production o.split.before x o.split.after
   inside x o l =
@@ -127,7 +126,7 @@ module _ (g : List Production) (lefts nothing : List ℕ) (are : AreProductions 
       go (inl at_end) =
           let both = and_true (start == x) (end_of_text == t) at_end in
           subst (λ z. CanFollow g z t) (eqb-true start x both.0)
-            (subst (λ u. CanFollow g start u) (eqb-true end_of_text t both.1) (end_follows g [] start is_start start_left (are.sentences start start_left) Empty tt))
+          (subst (λ u. CanFollow g start u) (eqb-true end_of_text t both.1) (end_follows g [] start is_start start_left (are.sentences start start_left) Empty tt))
       go (inr behind) =
           let s = composed-split beside first x t behind in
           let z = s.0 in
@@ -149,7 +148,7 @@ module _ (g : List Production) (lefts nothing : List ℕ) (are : AreProductions 
   reaches_end root is =
       let same : start ≡ root = (let h : root ∷ [] ≡ start ∷ [] = is ∙ is_start in cc) in
       Seed (seeds_are root end_of_text ∙ or_left ((start == root) && (end_of_text == end_of_text)) (composed beside first root end_of_text)
-        (and_both (start == root) (end_of_text == end_of_text) (eq-eqb start root same) (eq-eqb end_of_text end_of_text refl)))
+      (and_both (start == root) (end_of_text == end_of_text) (eq-eqb start root same) (eq-eqb end_of_text end_of_text refl)))
 
   reaches_beside : (x t y : ℕ) (o : Place g x) → is_left g x ≡ true → (s : Split o.split.after y) → DerivesNothing g s.before → Reaches starts tokens y t → Reaches ends seeds x t
   reaches_beside x t y o l s d r =
@@ -162,4 +161,4 @@ module _ (g : List Production) (lefts nothing : List ℕ) (are : AreProductions 
   pub reaches-follow : (x t : ℕ) → CanFollow g x t → Reaches ends seeds x t
   reaches-follow x t c =
       follow-complete g (Reaches starts tokens) (Reaches ends seeds)
-        (reaches-begun g lefts nothing are lefts_are nothing_are starts tokens starts_are tokens_are) reaches_end reaches_beside reaches_through x t c
+      (reaches-begun g lefts nothing are lefts_are nothing_are starts tokens starts_are tokens_are) reaches_end reaches_beside reaches_through x t c

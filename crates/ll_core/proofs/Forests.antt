@@ -1,7 +1,7 @@
 -- Forests side by side, and a forest cut in two.
-use Rattle.std.proofs.Common.{◌≡◌, ℕ, ◌+◌, List, [], ◌∷◌, ◌++◌, refl, ap, sym, ◌∙◌, append_assoc, Some, slice_get}
+use Rattle.std.proofs.Common.{◌≡◌, ℕ, ◌+◌, List, [], ◌∷◌, ◌++◌, refl, ap, sym, ◌∙◌, append_assoc, slice_get}
 use Rattle.ll_core.specs.declared.production.Production.{Production}
-use Rattle.ll_core.specs.Trees.{Forest, Empty, Leaf, Node, IsForest, IsToken, leaves, leftmost, nestings, right_of, deepening}
+use Rattle.ll_core.specs.Trees.{Forest, Empty, Leaf, Node, IsForest, leaves, leftmost, nestings, deepening}
 
 abbrev pub join : Forest → Forest → Forest
 join Empty b = b

@@ -1,8 +1,8 @@
 -- What the tables of a grammar say of a left side before a token, and of the right sides.
-use Rattle.std.proofs.Common.{◌≡◌, ◌≢◌, ℕ, suc, zero, ◌+◌, ◌<◌, ◌^◌, true, false, Bool, List, [], ◌∷◌, length, get_or, refl, ap, sym, ◌∙◌, subst, Some, None, Option, slice_get, IfSome, nat_eq, All, arith, ◌++◌, length-append, get_or-append-add}
+use Rattle.std.proofs.Common.{◌≡◌, ◌≢◌, ℕ, suc, ◌+◌, ◌<◌, true, false, Bool, List, [], ◌∷◌, length, get_or, refl, sym, subst, Some, None, Option, slice_get, IfSome, All, arith, ◌++◌, length-append, get_or-append-add}
 use Rattle.std.proofs.lemmas.Option.{slice_get_within, get_or_from_slice_get, slice_get-get_or}
 use Rattle.ll_core.specs.declared.production.Production.{Production}
-use Rattle.ll_core.specs.Trees.{Forest, Empty, Leaf, Node, IsForest, right_of, is_left, end_of_text}
+use Rattle.ll_core.specs.Trees.{Empty, Leaf, right_of, is_left, end_of_text}
 use Rattle.ll_core.specs.Predictions.{HasSentence, IsPrediction}
 use Rattle.ll_core.specs.Grammars.{AreProductions}
 use Rattle.ll_core.specs.declared.production.Row.{Row}
@@ -23,12 +23,12 @@ HasSentence-all g each (x ∷ xs) h = go (is_left g x) refl (HasSentence-all g e
 pub right_side : (g : List Production) (n : ℕ) (p : Production) → AreProductions g → slice_get g n ≡ Some p → HasSentence g (right_of p)
 right_side g n p h e =
     let right : All (λ x. x ≢ end_of_text) (right_of p) =
-        subst (λ (q : Production). All (λ x. x ≢ end_of_text) (right_of q)) (get_or_from_slice_get g n p p e) (h.rights n p (slice_get_within g n p e)) in
+    subst (λ (q : Production). All (λ x. x ≢ end_of_text) (right_of q)) (get_or_from_slice_get g n p p e) (h.rights n p (slice_get_within g n p e)) in
     HasSentence-all g h.sentences (right_of p) right
 
 -- the row that is found is a prediction, and each prediction is found
 pub found : (g : List Production) (lefts : List ℕ) (rows : List Row) (left token : ℕ) (o : Option ℕ) → AreTables g lefts rows
-  → o ≡ production_at rows left token → IfSome o (λ m. IsPrediction g (record { left = left; token = token; production = m }))
+    → o ≡ production_at rows left token → IfSome o (λ m. IsPrediction g (record { left = left; token = token; production = m }))
 found g lefts rows left token None h e = tt
 found g lefts rows left token (Some m) h e =
     let c = production_at-Contains rows left token m (sym e) in
@@ -46,10 +46,10 @@ module _ (g h : List Production) (same : g ≡ h) (are : AreProductions g) (n : 
 
 -- a symbol of a right side is no end of the text
 pub right_symbol : (g : List Production) → AreProductions g → (n : ℕ) (p : Production) (x : ℕ) (before after : List ℕ) → slice_get g n ≡ Some p
-  → right_of p ≡ before ++ x ∷ after → x ≢ end_of_text
+    → right_of p ≡ before ++ x ∷ after → x ≢ end_of_text
 right_symbol g are n p x before after numbered whole =
     let rights : All (λ x. x ≢ end_of_text) (right_of p) =
-        subst (λ (q : Production). All (λ x. x ≢ end_of_text) (right_of q)) (get_or_from_slice_get g n p p numbered) (are.rights n p (slice_get_within g n p numbered)) in
+    subst (λ (q : Production). All (λ x. x ≢ end_of_text) (right_of q)) (get_or_from_slice_get g n p p numbered) (are.rights n p (slice_get_within g n p numbered)) in
     let all : All (λ x. x ≢ end_of_text) (before ++ x ∷ after) = subst (λ xs. All (λ x. x ≢ end_of_text) xs) whole rights in
     let lt : length before + 0 < length (before ++ x ∷ after) = omega (arith, length-append before (x ∷ after)) in
     subst (λ z. z ≢ end_of_text) (get_or-append-add before (x ∷ after) 0 0) (all (length before + 0) 0 lt)

@@ -1,5 +1,5 @@
 -- Lists of pairs, as relations.
-use Rattle.std.proofs.Common.{◌≡◌, ◌==◌, ◌&&◌, ◌||◌, ℕ, suc, zero, ◌+◌, ◌<◌, ◌≤◌, Bool, true, false, List, [], ◌∷◌, ◌++◌, take, length, get_or, refl, ap, sym, ◌∙◌, subst, inl, inr, ◌⊎◌, ⊎_elim, true≢false, arith, eq-eqb, eqb-true, if◌then◌else◌, append_assoc, append-nil, take_all, ◌↔◌}
+use Rattle.std.proofs.Common.{◌≡◌, ◌==◌, ◌&&◌, ◌||◌, ℕ, suc, zero, ◌+◌, ◌<◌, ◌≤◌, Bool, true, false, List, [], ◌∷◌, ◌++◌, take, length, get_or, refl, ap, sym, ◌∙◌, subst, inl, inr, ◌⊎◌, ⊎_elim, arith, eq-eqb, eqb-true, if◌then◌else◌, append_assoc, append-nil, take_all, ◌↔◌}
 use borrow.Author.Tests.{ne_eqb}
 use Rattle.std.proofs.lemmas.List.{take_more, get_or_default, get_or_append_left}
 use Rattle.std.proofs.lemmas.List.Folds.{list_any-append}
@@ -55,6 +55,7 @@ has_pair-with ps a b x t = go (has_pair ps a b) refl
     at h e =
         let both = and_true (a == x) (b == t) e in
         ap (λ y. has_pair ps y t) (sym (eqb-true a x both.0)) ∙ ap (λ u. has_pair ps a u) (sym (eqb-true b t both.1)) ∙ h
+
     go : (c : Bool) → has_pair ps a b ≡ c → has_pair (if c then ps else ps ++ record { from = a; to = b } ∷ []) x t ≡ (has_pair ps x t || ((a == x) && (b == t)))
     go true h = same_bool (has_pair ps x t) (has_pair ps x t || ((a == x) && (b == t))) (or_left (has_pair ps x t) ((a == x) && (b == t)))
         (λ e. ⊎_elim (λ l. l) (λ r. at h r) (or_true (has_pair ps x t) ((a == x) && (b == t)) e))
@@ -79,8 +80,8 @@ place_of [] x t h = cc
 place_of (p ∷ ps) x t h = go (or_true ((p.from == x) && (p.to == t)) (has_pair ps x t) h) (place_of ps x t)
   where
     go : (((p.from == x) && (p.to == t)) ≡ true) ⊎ (has_pair ps x t ≡ true)
-      → (has_pair ps x t ≡ true → (j : ℕ) × (j < length ps) × ((d : Pair) → (get_or ps j d).from ≡ x) × ((d : Pair) → (get_or ps j d).to ≡ t))
-      → (j : ℕ) × (j < length (p ∷ ps)) × ((d : Pair) → (get_or (p ∷ ps) j d).from ≡ x) × ((d : Pair) → (get_or (p ∷ ps) j d).to ≡ t)
+        → (has_pair ps x t ≡ true → (j : ℕ) × (j < length ps) × ((d : Pair) → (get_or ps j d).from ≡ x) × ((d : Pair) → (get_or ps j d).to ≡ t))
+        → (j : ℕ) × (j < length (p ∷ ps)) × ((d : Pair) → (get_or (p ∷ ps) j d).from ≡ x) × ((d : Pair) → (get_or (p ∷ ps) j d).to ≡ t)
     go (inl here) rest =
         let both = and_true (p.from == x) (p.to == t) here in
         (zero, omega arith, (λ d. eqb-true p.from x both.0), (λ d. eqb-true p.to t both.1))
@@ -88,8 +89,8 @@ place_of (p ∷ ps) x t h = go (or_true ((p.from == x) && (p.to == t)) (has_pair
 
 -- one more edge, where it ends at the pair's first symbol and the pair is led back along it, or not
 pub led_back : (edges : List Pair) (i : ℕ) (e : Pair) (x f to t : ℕ) (old now : Bool) → take (i + 1) edges ≡ take i edges ++ e ∷ []
-  → now ≡ (old || ((to == t) && has_pair (take i edges) x f))
-  → (now || ((e.to == f) && ((e.from == x) && (to == t)))) ≡ (old || ((to == t) && has_pair (take (i + 1) edges) x f))
+    → now ≡ (old || ((to == t) && has_pair (take i edges) x f))
+    → (now || ((e.to == f) && ((e.from == x) && (to == t)))) ≡ (old || ((to == t) && has_pair (take (i + 1) edges) x f))
 led_back edges i e x f to t old now more h =
     ap (λ b. b || ((e.to == f) && ((e.from == x) && (to == t)))) h
     ∙ law old (to == t) (has_pair (take i edges) x f) (e.from == x) (e.to == f)
@@ -111,8 +112,8 @@ led_back edges i e x f to t old now more h =
 
 -- all pairs are led back along all edges, and so is what a seed reaches
 pub closed-complete : (edges seeds all : List Pair) → Extends seeds all
-  → ((j : ℕ) (d : Pair) → j < length all → (x : ℕ) → has_pair edges x (get_or all j d).from ≡ true → has_pair all x (get_or all j d).to ≡ true)
-  → (x t : ℕ) → Reaches edges seeds x t → has_pair all x t ≡ true
+    → ((j : ℕ) (d : Pair) → j < length all → (x : ℕ) → has_pair edges x (get_or all j d).from ≡ true → has_pair all x (get_or all j d).to ≡ true)
+    → (x t : ℕ) → Reaches edges seeds x t → has_pair all x t ≡ true
 closed-complete edges seeds all ext closed x t (Seed h) = ap (λ ps. has_pair ps x t) ext.all ∙ has_pair-append_left seeds ext.added x t h
 closed-complete edges seeds all ext closed x t (Along {y = y} e r) =
     let d : Pair = record { from = 0; to = 0 } in
@@ -136,7 +137,7 @@ pub record LedBack (edges : List Pair) (i : ℕ) (pair : Pair) (old now : List P
 pub LedBack-start : (edges : List Pair) (pair : Pair) (old : List Pair) → LedBack edges 0 pair old old
 LedBack-start edges pair old = record {
   extends = extends_refl old;
-  has = λ x t. sym (ap (λ b. has_pair old x t || b) (and_false (pair.to == t)) ∙ or_false (has_pair old x t))
+  has = λ x t. sym (ap (λ b. has_pair old x t || b) (and_false (pair.to == t)) ∙ or_false (has_pair old x t));
 }
   where
     and_false : (a : Bool) → (a && false) ≡ false
@@ -151,26 +152,26 @@ module _ (edges : List Pair) (i : ℕ) (d : Pair) (pair : Pair) (old now new : L
   LedBack-along to is = record {
     extends = subst (λ ps. Extends old ps) (sym is) (extends_trans old now (with_pair now (get_or edges i d).from pair.to) before.extends (extends_with now (get_or edges i d).from pair.to));
     has = λ x t.
-      let a = (get_or edges i d).from == x in
-      let q = pair.to == t in
-      ap (λ ps. has_pair ps x t) is ∙ has_pair-with now (get_or edges i d).from pair.to x t
-      ∙ ap (λ b. has_pair now x t || (b && (a && q))) (sym (eq-eqb (get_or edges i d).to pair.from to))
-      ∙ led_back edges i (get_or edges i d) x pair.from pair.to t (has_pair old x t) (has_pair now x t) now_taken (before.has x t)
+        let a = (get_or edges i d).from == x in
+        let q = pair.to == t in
+        ap (λ ps. has_pair ps x t) is ∙ has_pair-with now (get_or edges i d).from pair.to x t
+        ∙ ap (λ b. has_pair now x t || (b && (a && q))) (sym (eq-eqb (get_or edges i d).to pair.from to))
+        ∙ led_back edges i (get_or edges i d) x pair.from pair.to t (has_pair old x t) (has_pair now x t) now_taken (before.has x t);
   }
 
   pub LedBack-past : ((get_or edges i d).to ≡ pair.from → ⊥) → new ≡ now → LedBack edges (i + 1) pair old new
   LedBack-past to is = record {
     extends = subst (λ ps. Extends old ps) (sym is) before.extends;
     has = λ x t.
-      let a = (get_or edges i d).from == x in
-      let q = pair.to == t in
-      ap (λ ps. has_pair ps x t) is ∙ sym (or_false (has_pair now x t))
-      ∙ ap (λ b. has_pair now x t || (b && (a && q))) (sym (ne_eqb (get_or edges i d).to pair.from to))
-      ∙ led_back edges i (get_or edges i d) x pair.from pair.to t (has_pair old x t) (has_pair now x t) now_taken (before.has x t)
+        let a = (get_or edges i d).from == x in
+        let q = pair.to == t in
+        ap (λ ps. has_pair ps x t) is ∙ sym (or_false (has_pair now x t))
+        ∙ ap (λ b. has_pair now x t || (b && (a && q))) (sym (ne_eqb (get_or edges i d).to pair.from to))
+        ∙ led_back edges i (get_or edges i d) x pair.from pair.to t (has_pair old x t) (has_pair now x t) now_taken (before.has x t);
   }
 
 pub LedBack-end : (edges : List Pair) (i : ℕ) (pair : Pair) (old now : List Pair) → length edges ≤ i → LedBack edges i pair old now
-  → (x t : ℕ) → has_pair now x t ≡ (has_pair old x t || ((pair.to == t) && has_pair edges x pair.from))
+    → (x t : ℕ) → has_pair now x t ≡ (has_pair old x t || ((pair.to == t) && has_pair edges x pair.from))
 LedBack-end edges i pair old now le h x t =
     h.has x t ∙ ap (λ es. has_pair old x t || ((pair.to == t) && has_pair es x pair.from)) (take_all i edges le)
 
@@ -194,11 +195,11 @@ module _ (edges seeds all new : List Pair) (i : ℕ) (d : Pair) (lt : i < length
   sound : (x t : ℕ) → has_pair new x t ≡ true → Reaches edges seeds x t
   sound x t h =
       ⊎_elim (λ o. before.sound x t o)
-        (λ r. let both = and_true ((get_or all i d).to == t) (has_pair edges x (get_or all i d).from) r in
-              let p : Reaches edges seeds (get_or all i d).from (get_or all i d).to =
-                  before.sound (get_or all i d).from (get_or all i d).to (has_pair-get_or all i d lt) in
-              subst (λ u. Reaches edges seeds x u) (eqb-true (get_or all i d).to t both.0) (Along both.1 p))
-        (or_true (has_pair all x t) (((get_or all i d).to == t) && has_pair edges x (get_or all i d).from) (sym (has x t) ∙ h))
+      (λ r. let both = and_true ((get_or all i d).to == t) (has_pair edges x (get_or all i d).from) r in
+      let p : Reaches edges seeds (get_or all i d).from (get_or all i d).to =
+      before.sound (get_or all i d).from (get_or all i d).to (has_pair-get_or all i d lt) in
+      subst (λ u. Reaches edges seeds x u) (eqb-true (get_or all i d).to t both.0) (Along both.1 p))
+      (or_true (has_pair all x t) (((get_or all i d).to == t) && has_pair edges x (get_or all i d).from) (sym (has x t) ∙ h))
 
   closed : (j : ℕ) (e : Pair) → j < i + 1 → (x : ℕ) → has_pair edges x (get_or new j e).from ≡ true → has_pair new x (get_or new j e).to ≡ true
   closed j e l x edge =
@@ -209,13 +210,14 @@ module _ (edges seeds all new : List Pair) (i : ℕ) (d : Pair) (lt : i < length
     where
       last : (j : ℕ) → j < i + 1 → (j ≡ i) ⊎ (j < i)
       last j l = grind arith
+
       at_last : (j : ℕ) (e : Pair) → j ≡ i → j < length all → (x : ℕ) → has_pair edges x (get_or all j e).from ≡ true → has_pair new x (get_or all j e).to ≡ true
       at_last j e here in_all x was =
           let p : get_or all j e ≡ get_or all i d = ap (λ k. get_or all k e) here ∙ get_or_default all i e d lt in
           let b : has_pair edges x (get_or all i d).from ≡ true = ap (λ (q : Pair). has_pair edges x q.from) (sym p) ∙ was in
           ap (λ (q : Pair). has_pair new x q.to) p ∙ has x (get_or all i d).to
           ∙ or_right (has_pair all x (get_or all i d).to) (((get_or all i d).to == (get_or all i d).to) && has_pair edges x (get_or all i d).from)
-              (and_both ((get_or all i d).to == (get_or all i d).to) (has_pair edges x (get_or all i d).from) (eq-eqb (get_or all i d).to (get_or all i d).to refl) b)
+          (and_both ((get_or all i d).to == (get_or all i d).to) (has_pair edges x (get_or all i d).from) (eq-eqb (get_or all i d).to (get_or all i d).to refl) b)
 
   pub Closing-step : Closing edges seeds new (i + 1)
   Closing-step = record { extends = extends_trans seeds all new before.extends more; sound = sound; closed = closed }

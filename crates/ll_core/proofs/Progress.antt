@@ -1,14 +1,12 @@
 -- What a predictive parser knows while it reads: the symbols on its stack are what any derivation goes on with.
-use Rattle.std.proofs.Common.{◌≡◌, ◌≢◌, ℕ, ◌+◌, ◌<◌, ◌≤◌, true, false, List, [], ◌∷◌, ◌++◌, map, take, drop, length, refl, ap, sym, ◌∙◌, subst, Some, slice_get, inl, inr, ◌⊎◌, true≢false, All, append_assoc, arith}
+use Rattle.std.proofs.Common.{◌≡◌, ℕ, ◌+◌, ◌≤◌, true, List, [], ◌∷◌, ◌++◌, map, take, drop, length, refl, ap, sym, ◌∙◌, slice_get, append_assoc}
 use Rattle.ll_core.specs.declared.production.Production.{Production}
-use Rattle.ll_core.specs.declared.production.Row.{Row}
 use Rattle.ll_core.specs.declared.parser.Expected.{Expected}
 use Rattle.ll_core.specs.Stacks.{expected_at}
-use Rattle.ll_core.specs.Trees.{Forest, Empty, Leaf, Node, IsForest, IsToken, leaves, leftmost, nestings, right_of, is_left, end_of_text, deepening}
-use Rattle.ll_core.specs.Sentences.{start_of, IsDerivation, Begins, AllWithin, IsShallow}
-use Rattle.ll_core.specs.Predictions.{StandsBehind, CanFollow, HasSentence, IsPrediction, first_or}
-use Rattle.ll_core.proofs.Forests.{join, leaves-join, leftmost-join, IsForest-join, cut, Cut}
-use Rattle.ll_core.proofs.Following.{Expansion, expansion, first_or-append, Inside, CanFollow-inside}
+use Rattle.ll_core.specs.Trees.{Forest, Empty, Leaf, Node, IsForest, leaves, leftmost, nestings, is_left, end_of_text, deepening}
+use Rattle.ll_core.specs.Sentences.{IsDerivation, Begins, AllWithin, IsShallow}
+use Rattle.ll_core.specs.Predictions.{CanFollow, HasSentence, first_or}
+use Rattle.ll_core.proofs.Forests.{join}
 
 abbrev pub symbols_of : List Expected → List ℕ
 symbols_of stack = map (λ e. e.symbol) stack
@@ -44,7 +42,7 @@ pub record Progress (g : List Production) (tokens : List ℕ) (k : ℕ) (numbers
   pub in_range : k ≤ length tokens
   pub sound : (f : Forest) → IsForest g (symbols_of stack) f → (tree : Forest) × IsDerivation g tree × Continues g (take k tokens) numbers stack tree f
   pub complete : (tree : Forest) (others : List ℕ) → Begins g (take k tokens) others tree → next_of others ≡ next_of (drop k tokens)
-    → (f : Forest) × IsForest g (symbols_of stack) f × Continues g (take k tokens) numbers stack tree f
+      → (f : Forest) × IsForest g (symbols_of stack) f × Continues g (take k tokens) numbers stack tree f
   pub followed : Followed g (symbols_of stack)
   pub shallow : IsShallow g (take k tokens)
   pub completable : HasSentence g (symbols_of stack)
@@ -54,7 +52,7 @@ symbols_of-expected nesting [] stack = refl
 symbols_of-expected nesting (x ∷ xs) stack = ap (λ ys. x ∷ ys) (symbols_of-expected nesting xs stack)
 
 pub nestings_on-expected : (g : List Production) (nesting : ℕ) (xs : List ℕ) (stack : List Expected) (a b : Forest) → IsForest g xs a
-  → nestings_on g (expected_at nesting xs ++ stack) (join a b) ≡ nestings g nesting a ++ nestings_on g stack b
+    → nestings_on g (expected_at nesting xs ++ stack) (join a b) ≡ nestings g nesting a ++ nestings_on g stack b
 nestings_on-expected g nesting [] stack Empty b d = refl
 nestings_on-expected g nesting [] stack (Leaf token others) b d = absurd d
 nestings_on-expected g nesting [] stack (Node number children others) b d = absurd d

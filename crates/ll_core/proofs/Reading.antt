@@ -1,13 +1,12 @@
 -- What a predictive parser knows at each turn, over the items of its stack, whose last is the top.
-use Rattle.std.proofs.Common.{◌≡◌, ◌≢◌, ℕ, suc, zero, ◌+◌, ◌<◌, ◌≤◌, true, false, Bool, List, [], ◌∷◌, ◌++◌, map, reverse, take, drop, length, get_or, refl, ap, sym, ◌∙◌, subst, Some, None, slice_get, All, arith, length-append, drop-cons, add-one, if◌then◌else◌}
+use Rattle.std.proofs.Common.{◌≡◌, ◌≢◌, ℕ, suc, zero, ◌+◌, ◌<◌, ◌≤◌, true, false, Bool, List, [], ◌∷◌, ◌++◌, reverse, drop, length, get_or, ap, sym, ◌∙◌, subst, Some, slice_get, All, arith, length-append, if◌then◌else◌}
 use Rattle.std.proofs.lemmas.List.{reverse-append}
 use Rattle.std.proofs.lemmas.List.Elements.{All-append}
-use Rattle.std.proofs.lemmas.Option.{slice_get_within}
 use Rattle.ll_core.specs.declared.production.Production.{Production}
 use Rattle.ll_core.specs.declared.parser.Expected.{Expected}
 use Rattle.ll_core.specs.Stacks.{expected_at}
 use Rattle.ll_core.specs.Trees.{right_of, is_left, end_of_text, deepening}
-use Rattle.ll_core.specs.Predictions.{HasSentence, IsPrediction, first_or}
+use Rattle.ll_core.specs.Predictions.{HasSentence, IsPrediction}
 use Rattle.ll_core.specs.Sentences.{StopsAt, IsDeepAt, nesting_limit}
 use Rattle.ll_core.proofs.Progress.{Progress, next_of}
 use Rattle.ll_core.proofs.Shifts.{Progress-shift}
@@ -44,7 +43,7 @@ module _ (g : List Production) (tokens : List ℕ) (k : ℕ) (numbers : List ℕ
   turn_other left other = stops_at_other g tokens k numbers e (reverse rest) now left other
 
   pub turn_unpredicted : (token : ℕ) → token ≡ next_of (drop k tokens) → is_left g e.symbol ≡ true
-    → ((m : ℕ) → IsPrediction g (record { left = e.symbol; token = token; production = m }) → ⊥) → StopsAt g tokens k
+      → ((m : ℕ) → IsPrediction g (record { left = e.symbol; token = token; production = m }) → ⊥) → StopsAt g tokens k
   turn_unpredicted token same left none = stops_unpredicted g tokens k numbers e (reverse rest) now left
       (λ m p. none m (subst (λ t. IsPrediction g (record { left = e.symbol; token = t; production = m })) (sym same) p))
 
@@ -59,16 +58,16 @@ module _ (g : List Production) (tokens : List ℕ) (k : ℕ) (numbers : List ℕ
     turn_shift within = Progress-shift g tokens k numbers e (reverse rest) (left, no_end) in_range matches within now
 
   pub turn_expand : (n : ℕ) (p : Production) (token : ℕ) (after : List Expected) → token ≡ next_of (drop k tokens) → is_left g e.symbol ≡ true
-    → slice_get g n ≡ Some p → HasSentence g (right_of p) → IsPrediction g (record { left = e.symbol; token = token; production = n })
-    → ((m : ℕ) → IsPrediction g (record { left = e.symbol; token = token; production = m }) → Some n ≡ Some m)
-    → reverse after ≡ expected_at (e.nesting + deepening (Some p)) (right_of p) ++ reverse rest
-    → Progress g tokens k (numbers ++ n ∷ []) (reverse after)
+      → slice_get g n ≡ Some p → HasSentence g (right_of p) → IsPrediction g (record { left = e.symbol; token = token; production = n })
+      → ((m : ℕ) → IsPrediction g (record { left = e.symbol; token = token; production = m }) → Some n ≡ Some m)
+      → reverse after ≡ expected_at (e.nesting + deepening (Some p)) (right_of p) ++ reverse rest
+      → Progress g tokens k (numbers ++ n ∷ []) (reverse after)
   turn_expand n p token after same left numbered sentence prediction only pushed =
       let q : prediction.0 ≡ p = (let o : Some prediction.0 ≡ Some p = sym prediction.1 ∙ numbered in cc) in
       let p_left : p.left ≡ e.symbol = sym (ap (λ (r : Production). r.left) q) ∙ prediction.2 in
       subst (λ es. Progress g tokens k (numbers ++ n ∷ []) es) (sym pushed)
-        (Progress-expand g tokens k numbers e (reverse rest) n p numbered p_left left sentence
-          (λ m pm. let o : Some n ≡ Some m = only m (subst (λ t. IsPrediction g (record { left = e.symbol; token = t; production = m })) (sym same) pm) in cc) now)
+      (Progress-expand g tokens k numbers e (reverse rest) n p numbered p_left left sentence
+      (λ m pm. let o : Some n ≡ Some m = only m (subst (λ t. IsPrediction g (record { left = e.symbol; token = t; production = m })) (sym same) pm) in cc) now)
 
   pub turn_bounded : All (λ e. e.nesting ≤ length numbers) (reverse items) → All (λ e. e.nesting ≤ length numbers) (reverse rest)
   turn_bounded h = All-tail (length numbers) e (reverse rest) (subst (λ es. All (λ e. e.nesting ≤ length numbers) es) (popped items rest e popped_is) h)
@@ -77,16 +76,16 @@ module _ (g : List Production) (tokens : List ℕ) (k : ℕ) (numbers : List ℕ
   turn_nesting h = All-head (length numbers) e (reverse rest) (subst (λ es. All (λ e. e.nesting ≤ length numbers) es) (popped items rest e popped_is) h)
 
   pub turn_bounded_expand : (n m : ℕ) (xs : List ℕ) (after : List Expected) → m ≤ 1 → reverse after ≡ expected_at (e.nesting + m) xs ++ reverse rest
-    → All (λ e. e.nesting ≤ length numbers) (reverse items) → All (λ e. e.nesting ≤ length (numbers ++ n ∷ [])) (reverse after)
+      → All (λ e. e.nesting ≤ length numbers) (reverse items) → All (λ e. e.nesting ≤ length (numbers ++ n ∷ [])) (reverse after)
   turn_bounded_expand n m xs after le pushed h =
       let here : e.nesting ≤ length numbers = turn_nesting h in
       let longer : length (numbers ++ n ∷ []) ≡ length numbers + 1 = length-append numbers (n ∷ []) in
       let new : e.nesting + m ≤ length (numbers ++ n ∷ []) = omega arith in
       let more : length numbers ≤ length (numbers ++ n ∷ []) = omega arith in
       subst (λ es. All (λ e. e.nesting ≤ length (numbers ++ n ∷ [])) es) (sym pushed)
-        (All-append (λ e. e.nesting ≤ length (numbers ++ n ∷ [])) (expected_at (e.nesting + m) xs) (reverse rest)
-          (All-expected_at (length (numbers ++ n ∷ [])) (e.nesting + m) xs new)
-          (All-more (length numbers) (length (numbers ++ n ∷ [])) (reverse rest) more (turn_bounded h)))
+      (All-append (λ e. e.nesting ≤ length (numbers ++ n ∷ [])) (expected_at (e.nesting + m) xs) (reverse rest)
+      (All-expected_at (length (numbers ++ n ∷ [])) (e.nesting + m) xs new)
+      (All-more (length numbers) (length (numbers ++ n ∷ [])) (reverse rest) more (turn_bounded h)))
 
 bool_le : (b : Bool) → (if b then 1 else 0) ≤ 1
 bool_le true = omega arith

@@ -1,6 +1,5 @@
 -- Rows that do not share left side and token are found by these.
-use Rattle.std.proofs.Common.{◌≡◌, ◌==◌, ◌&&◌, ℕ, suc, zero, ◌+◌, ◌<◌, ◌≤◌, Bool, true, false, List, [], ◌∷◌, ◌++◌, take, length, get_or, refl, ap, sym, ◌∙◌, subst, Some, None, Option, Contains, AllPairs, arith, true≢false, eq-eqb, eqb-true, if◌then◌else◌, is_some, nat_eq, ◌^◌}
-use borrow.Author.Tests.{ne_eqb}
+use Rattle.std.proofs.Common.{◌≡◌, ◌==◌, ◌&&◌, ℕ, suc, zero, ◌<◌, Bool, true, false, List, [], ◌∷◌, ◌++◌, take, length, get_or, refl, ap, sym, ◌∙◌, Some, None, Option, Contains, AllPairs, arith, true≢false, eq-eqb, eqb-true, if◌then◌else◌, is_some, nat_eq, ◌^◌}
 use Rattle.ll_core.specs.declared.production.Row.{Row}
 use Rattle.ll_core.specs.Grammars.{AreApart}
 use Rattle.ll_core.specs.Tables.{production_at}
@@ -9,15 +8,16 @@ use Rattle.ll_core.proofs.Pairs.{and_true, and_both, same_bool}
 use Rattle.std.proofs.lemmas.List.{get_or-take, get_or_default, length-take-le}
 
 pub production_at-Contains : (rows : List Row) (left token m : ℕ) → production_at rows left token ≡ Some m
-  → (k : ℕ) × (k < length rows) × (get_or rows k (record { left = left; token = token; production = m }) ≡ record { left = left; token = token; production = m })
+    → (k : ℕ) × (k < length rows) × (get_or rows k (record { left = left; token = token; production = m }) ≡ record { left = left; token = token; production = m })
 production_at-Contains [] left token m e = cc
 production_at-Contains (r ∷ rs) left token m e = go ((r.left == left) && (r.token == token)) refl (production_at-Contains rs left token m)
   where
     row : Row
     row = record { left = left; token = token; production = m }
+
     go : (b : Bool) → ((r.left == left) && (r.token == token)) ≡ b
-      → (production_at rs left token ≡ Some m → (k : ℕ) × (k < length rs) × (get_or rs k (record { left = left; token = token; production = m }) ≡ record { left = left; token = token; production = m }))
-      → (k : ℕ) × (k < length (r ∷ rs)) × (get_or (r ∷ rs) k (record { left = left; token = token; production = m }) ≡ record { left = left; token = token; production = m })
+        → (production_at rs left token ≡ Some m → (k : ℕ) × (k < length rs) × (get_or rs k (record { left = left; token = token; production = m }) ≡ record { left = left; token = token; production = m }))
+        → (k : ℕ) × (k < length (r ∷ rs)) × (get_or (r ∷ rs) k (record { left = left; token = token; production = m }) ≡ record { left = left; token = token; production = m })
     go true h rest =
         let both = and_true (r.left == left) (r.token == token) h in
         let l : r.left ≡ left = eqb-true r.left left both.0 in
@@ -40,7 +40,7 @@ at_place (r ∷ rs) row (suc k) d apart lt e = go ((r.left == row.left) && (r.to
     (at_place rs row k d (λ i j d l m. apart (suc i) (suc j) d (omega arith) (omega arith)) (omega arith) e)
   where
     go : (b : Bool) → ((r.left == row.left) && (r.token == row.token)) ≡ b → production_at rs row.left row.token ≡ Some row.production
-      → (if (r.left == row.left) && (r.token == row.token) then Some r.production else production_at rs row.left row.token) ≡ Some row.production
+        → (if (r.left == row.left) && (r.token == row.token) then Some r.production else production_at rs row.left row.token) ≡ Some row.production
     go true h rest =
         let both = and_true (r.left == row.left) (r.token == row.token) h in
         let a : AreApart r (get_or rs k d) = apart zero (suc k) d (omega arith) lt in
@@ -56,30 +56,32 @@ None-apart [] row e k d lt = absurd (omega arith)
 None-apart (r ∷ rs) row e k d lt = go ((r.left == row.left) && (r.token == row.token)) refl k lt (None-apart rs row)
   where
     go : (b : Bool) → ((r.left == row.left) && (r.token == row.token)) ≡ b → (k : ℕ) → k < length (r ∷ rs)
-      → (production_at rs row.left row.token ≡ None → (k : ℕ) (d : Row) → k < length rs → AreApart (get_or rs k d) row) → AreApart (get_or (r ∷ rs) k d) row
+        → (production_at rs row.left row.token ≡ None → (k : ℕ) (d : Row) → k < length rs → AreApart (get_or rs k d) row) → AreApart (get_or (r ∷ rs) k d) row
     go true h k lt rest = (let f : Some r.production ≡ None = ap (λ b. if b then Some r.production else production_at rs row.left row.token) (sym h) ∙ e in cc)
     go false h zero lt rest = λ l t. true≢false (sym (and_both (r.left == row.left) (r.token == row.token) (eq-eqb r.left row.left l) (eq-eqb r.token row.token t)) ∙ h)
     go false h (suc k) lt rest = rest (ap (λ b. if b then Some r.production else production_at rs row.left row.token) (sym h) ∙ e) k d (omega arith)
 
 pub production_at-push : (rows : List Row) (row : Row) (x t : ℕ) → production_at rows row.left row.token ≡ None
-  → production_at (rows ++ row ∷ []) x t ≡ (if (row.left == x) && (row.token == t) then Some row.production else production_at rows x t)
+    → production_at (rows ++ row ∷ []) x t ≡ (if (row.left == x) && (row.token == t) then Some row.production else production_at rows x t)
 production_at-push [] row x t e = refl
 production_at-push (r ∷ rs) row x t e =
     let none : ((r.left == row.left) && (r.token == row.token)) ≡ false = no_match ((r.left == row.left) && (r.token == row.token)) r.production (production_at rs row.left row.token) e in
     let e' : production_at rs row.left row.token ≡ None = ap (λ b. if b then Some r.production else production_at rs row.left row.token) (sym none) ∙ e in
     swap ((r.left == x) && (r.token == t)) ((row.left == x) && (row.token == t)) r.production row.production (production_at rs x t) (production_at (rs ++ row ∷ []) x t)
-      (λ h k. true≢false (sym (same h k) ∙ none)) (production_at-push rs row x t e')
+    (λ h k. true≢false (sym (same h k) ∙ none)) (production_at-push rs row x t e')
   where
     no_match : (b : Bool) (m : ℕ) (o : Option ℕ) → (if b then Some m else o) ≡ None → b ≡ false
     no_match true m o h = cc
     no_match false m o h = refl
+
     same : ((r.left == x) && (r.token == t)) ≡ true → ((row.left == x) && (row.token == t)) ≡ true → ((r.left == row.left) && (r.token == row.token)) ≡ true
     same h k =
         let a = and_true (r.left == x) (r.token == t) h in
         let b = and_true (row.left == x) (row.token == t) k in
         and_both (r.left == row.left) (r.token == row.token)
-          (eq-eqb r.left row.left (eqb-true r.left x a.0 ∙ sym (eqb-true row.left x b.0)))
-          (eq-eqb r.token row.token (eqb-true r.token t a.1 ∙ sym (eqb-true row.token t b.1)))
+        (eq-eqb r.left row.left (eqb-true r.left x a.0 ∙ sym (eqb-true row.left x b.0)))
+        (eq-eqb r.token row.token (eqb-true r.token t a.1 ∙ sym (eqb-true row.token t b.1)))
+
     swap : (a b : Bool) (m n : ℕ) (o w : Option ℕ) → (a ≡ true → b ≡ true → ⊥) → w ≡ (if b then Some n else o) → (if a then Some m else w) ≡ (if b then Some n else (if a then Some m else o))
     swap true true m n o w apart h = absurd (apart refl refl)
     swap true false m n o w apart h = refl
@@ -90,11 +92,11 @@ production_at-push (r ∷ rs) row x t e =
 pub key_of-eq : (l t x u : ℕ) → t < 2 ^ 16 → u < 2 ^ 16 → nat_eq (key_of l t) (key_of x u) ≡ ((l == x) && (t == u))
 key_of-eq l t x u a b = same_bool (nat_eq (key_of l t) (key_of x u)) ((l == x) && (t == u))
     (λ e. let k : key_of l t ≡ key_of x u = eqb-true (key_of l t) (key_of x u) e in
-          let first : l ≡ x = omega arith in
-          let second : t ≡ u = omega arith in
-          and_both (l == x) (t == u) (eq-eqb l x first) (eq-eqb t u second))
+    let first : l ≡ x = omega arith in
+    let second : t ≡ u = omega arith in
+    and_both (l == x) (t == u) (eq-eqb l x first) (eq-eqb t u second))
     (λ e. let both = and_true (l == x) (t == u) e in
-          eq-eqb (key_of l t) (key_of x u) (ap (λ y. key_of y t) (eqb-true l x both.0) ∙ ap (λ v. key_of x v) (eqb-true t u both.1)))
+    eq-eqb (key_of l t) (key_of x u) (ap (λ y. key_of y t) (eqb-true l x both.0) ∙ ap (λ v. key_of x v) (eqb-true t u both.1)))
 
 -- a row before place i shares left side and token with the one there
 pub found-not_apart : (rows : List Row) (i : ℕ) (d : Row) → i < length rows → is_some (production_at (take i rows) (get_or rows i d).left (get_or rows i d).token) ≡ true → AllPairs AreApart rows → ⊥

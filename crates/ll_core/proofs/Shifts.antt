@@ -1,14 +1,13 @@
 -- A token that is read keeps what a predictive parser knows.
-use Rattle.std.proofs.Common.{◌≡◌, ◌≢◌, ◌==◌, ◌||◌, ℕ, suc, zero, ◌+◌, ◌<◌, ◌≤◌, true, false, Bool, List, [], ◌∷◌, ◌++◌, map, take, drop, length, get_or, refl, ap, sym, ◌∙◌, subst, Some, slice_get, inl, inr, ◌⊎◌, true≢false, append_assoc, arith, length-append, eq-eqb, drop-cons, add-one}
+use Rattle.std.proofs.Common.{◌≡◌, ◌==◌, ◌||◌, ℕ, suc, zero, ◌+◌, ◌<◌, ◌≤◌, true, false, Bool, List, [], ◌∷◌, ◌++◌, take, drop, length, get_or, refl, ap, sym, ◌∙◌, subst, Some, slice_get, true≢false, append_assoc, arith, length-append, eq-eqb, drop-cons, add-one}
 use Rattle.std.proofs.Math.Seq.{take-append_seam}
-use Rattle.std.proofs.lemmas.List.{append_cancel_left, take_more}
+use Rattle.std.proofs.lemmas.List.{take_more}
 use Rattle.std.proofs.lemmas.List.Elements.{All-push}
 use Rattle.ll_core.specs.declared.production.Production.{Production}
 use Rattle.ll_core.specs.declared.parser.Expected.{Expected}
-use Rattle.ll_core.specs.Trees.{Forest, Empty, Leaf, Node, IsForest, IsToken, leaves, leftmost, nestings, right_of, is_left, end_of_text}
-use Rattle.ll_core.specs.Sentences.{start_of, IsDerivation, Begins, AllWithin, IsShallow, nesting_limit}
-use Rattle.ll_core.specs.Predictions.{HasSentence, first_or}
-use Rattle.ll_core.proofs.Progress.{Progress, Continues, Followed, next_of, symbols_of, nestings_on}
+use Rattle.ll_core.specs.Trees.{Forest, Empty, Leaf, Node, IsForest, IsToken, leaves, nestings, is_left}
+use Rattle.ll_core.specs.Sentences.{IsDerivation, Begins, AllWithin, IsShallow, nesting_limit}
+use Rattle.ll_core.proofs.Progress.{Progress, Continues, next_of, symbols_of, nestings_on}
 
 or_true : (b : Bool) → (b || true) ≡ true
 or_true true = refl
@@ -39,7 +38,6 @@ terminal g x xs (Node number children others) l d =
 module _ (g : List Production) (tokens : List ℕ) (k : ℕ) (numbers : List ℕ) (e : Expected) (stack : List Expected)
     (is_token : IsToken g e.symbol) (in_range : k < length tokens) (matches : get_or tokens k 0 ≡ e.symbol)
     (within : e.nesting ≤ nesting_limit) (before : Progress g tokens k numbers (e ∷ stack)) where
-
   now_read : take (k + 1) tokens ≡ take k tokens ++ e.symbol ∷ []
   now_read = take_more tokens k 0 in_range ∙ ap (λ x. take k tokens ++ x ∷ []) matches
 
@@ -53,7 +51,7 @@ module _ (g : List Production) (tokens : List ℕ) (k : ℕ) (numbers : List ℕ
     depths = c.depths ++ e.nesting ∷ [];
     depths_length = length-append c.depths (e.nesting ∷ []) ∙ ap (λ n. n + 1) c.depths_length ∙ sym (length-append (take k tokens) (e.symbol ∷ [])) ∙ ap length (sym now_read);
     within = All-push (λ d. d ≤ nesting_limit) c.depths e.nesting c.within within;
-    nested = c.nested ∙ sym (append_assoc c.depths (e.nesting ∷ []) (nestings_on g stack f))
+    nested = c.nested ∙ sym (append_assoc c.depths (e.nesting ∷ []) (nestings_on g stack f));
   }
 
   sound : (f : Forest) → IsForest g (symbols_of stack) f → (tree : Forest) × IsDerivation g tree × Continues g (take (k + 1) tokens) numbers stack tree f
@@ -62,10 +60,10 @@ module _ (g : List Production) (tokens : List ℕ) (k : ℕ) (numbers : List ℕ
       (s.0, s.1, continues s.0 f s.2)
 
   complete : (tree : Forest) (others : List ℕ) → Begins g (take (k + 1) tokens) others tree
-    → (f : Forest) × IsForest g (symbols_of stack) f × Continues g (take (k + 1) tokens) numbers stack tree f
+      → (f : Forest) × IsForest g (symbols_of stack) f × Continues g (take (k + 1) tokens) numbers stack tree f
   complete tree others b =
       let b' : Begins g (take k tokens) (e.symbol ∷ others) tree =
-          record { derived = b.derived; reads = b.reads ∙ ap (λ w. w ++ others) now_read ∙ append_assoc (take k tokens) (e.symbol ∷ []) others } in
+      record { derived = b.derived; reads = b.reads ∙ ap (λ w. w ++ others) now_read ∙ append_assoc (take k tokens) (e.symbol ∷ []) others } in
       let c = before.complete tree (e.symbol ∷ others) b' (ap next_of (sym was_next)) in
       let t = terminal g e.symbol (symbols_of stack) c.0 is_token.0 c.1 in
       (t.others, t.others_are, continues tree t.others (subst (λ w. Continues g (take k tokens) numbers (e ∷ stack) tree w) t.leaf c.2))
@@ -75,9 +73,9 @@ module _ (g : List Production) (tokens : List ℕ) (k : ℕ) (numbers : List ℕ
       let c = complete tree others b in
       let n = take (length (take (k + 1) tokens)) (nestings g 0 tree) in
       let same : n ≡ c.2.depths =
-          ap (take (length (take (k + 1) tokens))) c.2.nested
-          ∙ ap (λ i. take i (c.2.depths ++ nestings_on g stack c.0)) (sym c.2.depths_length)
-          ∙ take-append_seam c.2.depths (nestings_on g stack c.0) in
+      ap (take (length (take (k + 1) tokens))) c.2.nested
+      ∙ ap (λ i. take i (c.2.depths ++ nestings_on g stack c.0)) (sym c.2.depths_length)
+      ∙ take-append_seam c.2.depths (nestings_on g stack c.0) in
       subst (λ ds. AllWithin ds) (sym same) c.2.within
 
   pub Progress-shift : Progress g tokens (k + 1) numbers stack
@@ -89,5 +87,5 @@ module _ (g : List Production) (tokens : List ℕ) (k : ℕ) (numbers : List ℕ
     shallow = shallow;
     completable =
         let t = terminal g e.symbol (symbols_of stack) before.completable.0 is_token.0 before.completable.1 in
-        (t.others, t.others_are)
+        (t.others, t.others_are);
   }

@@ -1,11 +1,11 @@
 -- At most one answer is right for a list of tokens.
-use Rattle.std.proofs.Common.{◌≡◌, ℕ, suc, ◌+◌, ◌<◌, ◌≤◌, List, [], ◌∷◌, ◌++◌, take, drop, length, get_or, slice_index, refl, ap, sym, ◌∙◌, subst, inl, inr, ◌⊎◌, append_assoc, append-nil, arith, length-append, length-take, take-append-drop, Ok, Err, IfOk, IfErr, Result, All, slice_get, ⊎_elim}
+use Rattle.std.proofs.Common.{◌≡◌, ℕ, suc, ◌+◌, ◌<◌, ◌≤◌, List, ◌++◌, take, drop, length, get_or, refl, ap, sym, ◌∙◌, inl, inr, ◌⊎◌, append_assoc, arith, length-append, take-append-drop, Ok, Err, IfOk, IfErr, Result, slice_get, ⊎_elim}
 use Rattle.std.proofs.lemmas.List.{get_or-take, length-take-le, take-take}
 use Rattle.ll_core.specs.declared.production.Production.{Production}
 use Rattle.ll_core.specs.declared.parser.ParseStop.{ParseStop}
 use Rattle.ll_core.specs.declared.parser.ParseStop.TheVariants.{At, Deep, Memory}
-use Rattle.ll_core.specs.Trees.{Forest, Empty, Leaf, Node, leaves, leftmost, nestings, deepening}
-use Rattle.ll_core.specs.Sentences.{IsDerivation, IsSentence, IsViablePrefix, Begins, AllWithin, IsShallow, IsParsed, StopsAt, IsDeepAt, nesting_limit}
+use Rattle.ll_core.specs.Trees.{Forest, Empty, Leaf, Node, leaves, nestings, deepening}
+use Rattle.ll_core.specs.Sentences.{IsDerivation, IsViablePrefix, Begins, AllWithin, IsShallow, StopsAt, IsDeepAt, nesting_limit}
 use Rattle.ll_core.specs.Answers.{IsDerivedWithin, IsOnlyDerivation, IsStop, IsUnlessMemory}
 
 length-nestings : (g : List Production) (outer : ℕ) (f : Forest) → length (nestings g outer f) ≡ length (leaves f)
@@ -26,10 +26,10 @@ take-shorter i j xs le = sym (take-append-drop i (take j xs)) ∙ ap (λ ys. ys 
 
 module _ (g : List Production) (tokens : List ℕ) where
   shorter : (i j : ℕ) (others : List ℕ) (tree : Forest) → i ≤ j → Begins g (take j tokens) others tree
-    → Begins g (take i tokens) (drop i (take j tokens) ++ others) tree
+      → Begins g (take i tokens) (drop i (take j tokens) ++ others) tree
   shorter i j others tree le b = record {
     derived = b.derived;
-    reads = b.reads ∙ ap (λ w. w ++ others) (take-shorter i j tokens le) ∙ append_assoc (take i tokens) (drop i (take j tokens)) others
+    reads = b.reads ∙ ap (λ w. w ++ others) (take-shorter i j tokens le) ∙ append_assoc (take i tokens) (drop i (take j tokens)) others;
   }
 
   viable-shorter : (i j : ℕ) → i ≤ j → IsViablePrefix g (take j tokens) → IsViablePrefix g (take i tokens)
@@ -58,9 +58,9 @@ module _ (g : List Production) (tokens : List ℕ) where
   sentence-stop : (numbers : List ℕ) (k : ℕ) → IsDerivedWithin g tokens numbers → StopsAt g tokens k → ⊥
   sentence-stop numbers k s stop =
       ⊎_elim (λ lt. stop.no_continuation lt (s.0, drop (k + 1) tokens, begun (k + 1) s.0 s.1.derived s.1.reads))
-        (λ rest. let at_end : k ≡ length tokens = (let h = stop.in_range in ⊎_elim (λ e. e) (λ gt. absurd (omega arith)) rest) in
-          stop.no_sentence at_end (s.0, s.1.derived, s.1.reads))
-        (compare k (length tokens))
+      (λ rest. let at_end : k ≡ length tokens = (let h = stop.in_range in ⊎_elim (λ e. e) (λ gt. absurd (omega arith)) rest) in
+      stop.no_sentence at_end (s.0, s.1.derived, s.1.reads))
+      (compare k (length tokens))
 
   sentence-deep : (numbers : List ℕ) (k : ℕ) → IsDerivedWithin g tokens numbers → IsDeepAt g tokens k → ⊥
   sentence-deep numbers k s deep =
@@ -83,14 +83,14 @@ module _ (g : List Production) (tokens : List ℕ) where
   stop-deep i j a b =
       let h = b.in_range in
       ⊎_elim (λ lt. let within : i < length tokens = omega arith in
-                    let le : i + 1 ≤ j + 1 = omega arith in
-                    a.no_continuation within (viable-shorter (i + 1) (j + 1) le b.viable))
-        (λ rest. ⊎_elim
-          (λ e. let within : i < length tokens = omega arith in
-                let le : i + 1 ≤ j + 1 = omega arith in
-                a.no_continuation within (viable-shorter (i + 1) (j + 1) le b.viable))
-          (λ gt. not_deep j i b gt a.in_range a.viable a.shallow) rest)
-        (compare i j)
+      let le : i + 1 ≤ j + 1 = omega arith in
+      a.no_continuation within (viable-shorter (i + 1) (j + 1) le b.viable))
+      (λ rest. ⊎_elim
+      (λ e. let within : i < length tokens = omega arith in
+      let le : i + 1 ≤ j + 1 = omega arith in
+      a.no_continuation within (viable-shorter (i + 1) (j + 1) le b.viable))
+      (λ gt. not_deep j i b gt a.in_range a.viable a.shallow) rest)
+      (compare i j)
 
   deep-later : (i j : ℕ) → IsDeepAt g tokens i → IsDeepAt g tokens j → i < j → ⊥
   deep-later i j a b lt =
@@ -100,26 +100,26 @@ module _ (g : List Production) (tokens : List ℕ) where
       not_deep i j a lt within (viable-shorter j (j + 1) le b.viable) b.shallow
 
   pub answers_sentence : (r : Result (List ℕ) ParseStop) → IfOk r (IsOnlyDerivation g tokens) → IfErr r (IsStop g tokens)
-    → (numbers : List ℕ) → IsDerivedWithin g tokens numbers → IsUnlessMemory r (Ok numbers)
+      → (numbers : List ℕ) → IsDerivedWithin g tokens numbers → IsUnlessMemory r (Ok numbers)
   answers_sentence (Ok ns) only stop numbers s = inl (ap Ok (sym (only s.0 s.1.derived s.1.reads) ∙ s.1.order))
   answers_sentence (Err (At k)) only stop numbers s = absurd (sentence-stop numbers k s stop)
   answers_sentence (Err (Deep k)) only stop numbers s = absurd (sentence-deep numbers k s stop)
   answers_sentence (Err Memory) only stop numbers s = inr refl
 
   pub answers_stop : (r : Result (List ℕ) ParseStop) → IfOk r (IsDerivedWithin g tokens) → IfErr r (IsStop g tokens)
-    → (j : ℕ) → StopsAt g tokens j → IsUnlessMemory r (Err (At j))
+      → (j : ℕ) → StopsAt g tokens j → IsUnlessMemory r (Err (At j))
   answers_stop (Ok ns) derived stop j s = absurd (sentence-stop ns j derived s)
   answers_stop (Err (At k)) derived stop j s =
       ⊎_elim (λ lt. absurd (stop-later k j stop s lt))
-        (λ rest. ⊎_elim (λ e. inl (ap (λ i. Err (At i)) e)) (λ gt. absurd (stop-later j k s stop gt)) rest) (compare k j)
+      (λ rest. ⊎_elim (λ e. inl (ap (λ i. Err (At i)) e)) (λ gt. absurd (stop-later j k s stop gt)) rest) (compare k j)
   answers_stop (Err (Deep k)) derived stop j s = absurd (stop-deep j k s stop)
   answers_stop (Err Memory) derived stop j s = inr refl
 
   pub answers_deep : (r : Result (List ℕ) ParseStop) → IfOk r (IsDerivedWithin g tokens) → IfErr r (IsStop g tokens)
-    → (j : ℕ) → IsDeepAt g tokens j → IsUnlessMemory r (Err (Deep j))
+      → (j : ℕ) → IsDeepAt g tokens j → IsUnlessMemory r (Err (Deep j))
   answers_deep (Ok ns) derived stop j s = absurd (sentence-deep ns j derived s)
   answers_deep (Err (At k)) derived stop j s = absurd (stop-deep k j stop s)
   answers_deep (Err (Deep k)) derived stop j s =
       ⊎_elim (λ lt. absurd (deep-later k j stop s lt))
-        (λ rest. ⊎_elim (λ e. inl (ap (λ i. Err (Deep i)) e)) (λ gt. absurd (deep-later j k s stop gt)) rest) (compare k j)
+      (λ rest. ⊎_elim (λ e. inl (ap (λ i. Err (Deep i)) e)) (λ gt. absurd (deep-later j k s stop gt)) rest) (compare k j)
   answers_deep (Err Memory) derived stop j s = inr refl

@@ -1,5 +1,5 @@
 -- What a parser has to answer.
-use Rattle.std.specs.Prelude.{◌≡◌, ℕ, ◌⊎◌, List, Result, Ok, Err}
+use Rattle.std.specs.Prelude.{◌≡◌, ℕ, ◌⊎◌, List, Result, Err}
 use Rattle.ll_core.specs.declared.production.Production.{Production}
 use Rattle.ll_core.specs.declared.parser.ParseStop.{ParseStop}
 use Rattle.ll_core.specs.declared.parser.ParseStop.TheVariants.{At, Deep, Memory}

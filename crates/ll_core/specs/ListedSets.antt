@@ -1,7 +1,7 @@
 -- Listed sets of symbols and tokens, with tests over them that compute: each member is put there by a production
 -- and earlier members, and the lists are closed under the productions.
-use Rattle.std.specs.Prelude.{◌≡◌, ◌==◌, ◌&&◌, ◌||◌, not, ℕ, ◌+◌, ◌*◌, ◌<◌, nat_lt, nat_le, Bool, true, false, List, [], ◌∷◌, ◌++◌, Option, Some, None, slice_get, length, ◌↔◌, if◌then◌else◌}
-use Rattle.std.specs.List.{list_any, list_all}
+use Rattle.std.specs.Prelude.{◌≡◌, ◌==◌, ◌&&◌, ◌||◌, not, ℕ, ◌+◌, ◌*◌, nat_lt, nat_le, Bool, true, false, List, [], ◌∷◌, ◌++◌, Option, Some, None, slice_get, length, ◌↔◌, if◌then◌else◌}
+use Rattle.std.specs.List.{list_all}
 use Rattle.ll_core.specs.declared.production.Production.{Production}
 use Rattle.ll_core.specs.declared.production.Row.{Row}
 use Rattle.ll_core.specs.Members.{has}
@@ -117,9 +117,9 @@ abbrev pub is_follow_closed_in : List Production → List ℕ → List Group →
 is_follow_closed_in grammar nothing first follow outer [] = true
 is_follow_closed_in grammar nothing first follow outer (x ∷ xs) =
     (if is_left grammar x then
-      (let own = tokens_of follow x in
-       list_all (λ y. within (begin_of grammar first y) own) (first_symbols nothing xs) && (if has_all nothing xs then within outer own else true))
-     else true)
+    (let own = tokens_of follow x in
+    list_all (λ y. within (begin_of grammar first y) own) (first_symbols nothing xs) && (if has_all nothing xs then within outer own else true))
+    else true)
     && is_follow_closed_in grammar nothing first follow outer xs
 
 abbrev pub is_follow_closed : List Production → List ℕ → List Group → List Group → List Production → Bool

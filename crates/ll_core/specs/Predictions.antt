@@ -1,6 +1,6 @@
 -- What a symbol can begin with and be followed by, and the prediction rows of a grammar
 -- (Aho, Lam, Sethi and Ullman, 4.4.2 and 4.4.3).
-use Rattle.std.specs.Prelude.{◌≡◌, ◌≢◌, ℕ, true, ◌<◌, ◌≤◌, ◌⊎◌, ◌↔◌, List, [], ◌∷◌, ◌++◌, Some, slice_get, length, Contains, All}
+use Rattle.std.specs.Prelude.{◌≡◌, ℕ, true, ◌⊎◌, List, [], ◌∷◌, Some, slice_get}
 use Rattle.ll_core.specs.declared.production.Production.{Production}
 use Rattle.ll_core.specs.declared.production.Row.{Row}
 use Rattle.ll_core.specs.Trees.{end_of_text, right_of, is_left, Forest, Empty, Leaf, Node, IsForest, leaves}

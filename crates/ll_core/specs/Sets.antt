@@ -1,5 +1,5 @@
 -- Which symbols derive something, by tests over listed symbols that compute.
-use Rattle.std.specs.Prelude.{◌≡◌, ◌==◌, ◌&&◌, ◌||◌, ℕ, ◌<◌, ◌≤◌, ◌⊎◌, Bool, true, false, not, ◌↔◌, List, [], ◌∷◌, ◌++◌, length, Some, slice_get, if◌then◌else◌}
+use Rattle.std.specs.Prelude.{◌≡◌, ◌&&◌, ◌||◌, ℕ, ◌<◌, ◌⊎◌, Bool, true, false, not, ◌↔◌, List, [], ◌∷◌, ◌++◌, length, Some, slice_get}
 use Rattle.ll_core.specs.declared.production.Production.{Production}
 use Rattle.ll_core.specs.declared.relation.Pair.{Pair}
 use Rattle.ll_core.specs.Members.{has}
@@ -41,7 +41,7 @@ pub record ArePredictionSets (grammar : List Production) (nothing : List ℕ) (f
   pub nothing_are : AreDerivingLefts false grammar nothing
   pub first_sound : (symbol token : ℕ) → has_pair first symbol token ≡ true → CanBegin grammar (symbol ∷ []) token
   pub first_complete : (number : ℕ) (p : Production) (before : List ℕ) (symbol : ℕ) (after : List ℕ) (token : ℕ)
-    → slice_get grammar number ≡ Some p → right_of p ≡ before ++ symbol ∷ after → CanBegin grammar (symbol ∷ []) token → has_pair first symbol token ≡ true
+      → slice_get grammar number ≡ Some p → right_of p ≡ before ++ symbol ∷ after → CanBegin grammar (symbol ∷ []) token → has_pair first symbol token ≡ true
   pub follow_are : (left token : ℕ) → (has_pair follow left token ≡ true) ↔ CanFollow grammar left token
 
 -- whether a right side is predicted before the token, by such sets

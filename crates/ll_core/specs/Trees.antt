@@ -1,5 +1,5 @@
 -- Derivation trees over the productions of a grammar (Aho, Lam, Sethi and Ullman, 4.2).
-use Rattle.std.specs.Prelude.{◌≡◌, ◌≢◌, ◌==◌, ℕ, ◌+◌, Bool, true, false, if◌then◌else◌, List, [], ◌∷◌, ◌++◌, take, Option, Some, None, slice_get}
+use Rattle.std.specs.Prelude.{◌≡◌, ◌≢◌, ◌==◌, ℕ, ◌+◌, Bool, false, if◌then◌else◌, List, [], ◌∷◌, ◌++◌, take, Option, Some, None, slice_get}
 use Rattle.std.specs.List.{list_any}
 use Rattle.ll_core.specs.declared.production.Production.{Production}
 

@@ -7,14 +7,13 @@ ghost use Rattle.ll_core.specs.Tables.{production_at};
 ghost use Rattle.ll_core.specs.Sets.{ArePredictionSets};
 ghost use Rattle.ll_core.specs.Checks.{IsWellFormed, AreListed, ArePairsCovered, IsCovered, AreAllFound};
 
-use std::alloc::{AllocError, Global};
-
 use crate::derivable::deriving_lefts;
 use crate::production::{END_OF_TEXT, Production, Row};
 use crate::relation::Pair;
 use crate::rows::RowTable;
 use crate::sets::{PredictionSets, is_predicted};
 use crate::symbols::SymbolSet;
+use std::alloc::{AllocError, Global};
 
 /// Whether these can be the productions of a grammar.
 pub fn are_productions(
@@ -131,13 +130,7 @@ fn is_covered(
 }
 
 /// Whether the rows have the production before each token that the symbol is related to.
-fn are_pairs_covered(
-    pairs: &[Pair],
-    symbol: u16,
-    left: u16,
-    number: usize,
-    rows: &RowTable,
-) -> bool
+fn are_pairs_covered(pairs: &[Pair], symbol: u16, left: u16, number: usize, rows: &RowTable) -> bool
     ensures { (result ≡ true) ↔ ArePairsCovered pairs.now symbol left number rows.now }
 {
     for pair in pairs {

@@ -3,10 +3,9 @@ ghost use Rattle.ll_core.specs.Members.{has};
 ghost use Rattle.ll_core.specs.Trees.{is_left, right_of, end_of_text};
 ghost use Rattle.ll_core.specs.Sets.{all_ready, AreDeriving, AreDerivingLefts, GrewOrClosed};
 
-use std::alloc::{AllocError, Global};
-
 use crate::production::Production;
 use crate::symbols::SymbolSet;
+use std::alloc::{AllocError, Global};
 
 /// The left sides of the productions.
 pub fn left_sides(alloc: Global, productions: &[Production]) -> Result<SymbolSet, AllocError>
@@ -58,9 +57,7 @@ fn derive_more(
     ensures grew { OnOk result (GrewOrClosed tokens productions.now lefts.now set.old set.new (length productions.now)) }
 {
     for production in productions {
-        if !set.contains(production.left)
-            && is_ready(production.right_side(), lefts, tokens, set)
-        {
+        if !set.contains(production.left) && is_ready(production.right_side(), lefts, tokens, set) {
             set.insert(production.left)?;
         }
     }

@@ -7,15 +7,14 @@ ghost use Rattle.ll_core.specs.Grammars.{IsGrammar};
 ghost use Rattle.ll_core.specs.Keys.{key_of};
 ghost use Rattle.ll_core.specs.Tables.{AreTables};
 
-use std::alloc::{AllocError, Global};
-use std::marker::Model;
-
 use crate::admissible::{are_all_found, are_predictions, are_productions};
 use crate::derivable::left_sides;
 use crate::production::{Production, Row};
 use crate::rows::{RowTable, table_of};
 use crate::sets::prediction_sets;
 use crate::symbols::SymbolSet;
+use std::alloc::{AllocError, Global};
+use std::marker::Model;
 
 /// A grammar of P productions that S prediction rows parse without a conflict.
 ///

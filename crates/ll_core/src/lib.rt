@@ -3,9 +3,9 @@
 
 #![tactic(auto)]
 
-mod derivation;
 mod admissible;
 mod derivable;
+mod derivation;
 mod grammar;
 mod listed;
 mod parser;

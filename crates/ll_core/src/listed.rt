@@ -11,5 +11,4 @@ ghost use Rattle.ll_core.specs.ListedSets.{WellListedSetsAreTrue, WellListedRows
 pub fn well_listed_sets_are_true()
     ensures sets { WellListedSetsAreTrue }
     ensures rows { WellListedRowsMakeGrammars }
-{
-}
+{}

@@ -5,11 +5,10 @@ ghost use Rattle.ll_core.specs.Answers.{IsDerivedWithin, IsOnlyDerivation, IsSto
 ghost use Rattle.ll_core.specs.Sentences.{StopsAt, IsDeepAt};
 ghost use Rattle.ll_core.specs.Stacks.{expected_at};
 
-use std::alloc::{AllocError, AllocFailed, Global};
-
 use crate::derivation::Derivation;
 use crate::grammar::Grammar;
 use crate::production::{END_OF_TEXT, Production};
+use std::alloc::{AllocError, AllocFailed, Global};
 
 /// How many derivations that count as nesting may hold a token.
 pub const NESTING_LIMIT: usize = 64;
@@ -127,7 +126,11 @@ fn next_of(tokens: &[u16], k: usize) -> u16
     requires { k ≤ length tokens.now }
     ensures { result ≡ first_or end_of_text (drop k tokens.now) }
 {
-    if k < tokens.len() { tokens[k] } else { END_OF_TEXT }
+    if k < tokens.len() {
+        tokens[k]
+    } else {
+        END_OF_TEXT
+    }
 }
 
 /// Expects the right side of a production in place of its left side, which stands at the nesting.

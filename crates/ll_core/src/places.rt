@@ -3,11 +3,10 @@ ghost use Rattle.ll_core.specs.Members.{has};
 ghost use Rattle.ll_core.specs.Relations.{has_pair};
 ghost use Rattle.ll_core.specs.Places.{first_symbols, is_beside, is_end, is_token_in, starts_in, beside_in, ends_in, tokens_in};
 
-use std::alloc::{AllocError, Global};
-
 use crate::production::Production;
 use crate::relation::Relation;
 use crate::symbols::SymbolSet;
+use std::alloc::{AllocError, Global};
 
 /// Where symbols stand in the right sides of some productions.
 #[derive(Drop)]
@@ -109,11 +108,7 @@ fn add_ends(
 }
 
 /// Relates each token among the symbols to itself.
-fn add_tokens(
-    relation: &mut Relation,
-    symbols: &[u16],
-    lefts: &SymbolSet,
-) -> Result<(), AllocError>
+fn add_tokens(relation: &mut Relation, symbols: &[u16], lefts: &SymbolSet) -> Result<(), AllocError>
     ensures { OnOk result ((x t : ℕ) → has_pair relation.new x t ≡ (has_pair relation.old x t || is_token_in lefts.now symbols.now x t)) }
 {
     for symbol in symbols {

@@ -1,11 +1,10 @@
 ghost use Rattle.std.specs.Prelude.{◌≡◌, ℕ, ◌+◌, ◌<◌, ◌≤◌, ◌^◌, ◌||◌, ◌&&◌, ◌==◌, ◌↔◌, true, false, List, [], ◌∷◌, ◌++◌, Some, length, IfOk, OnOk};
 ghost use Rattle.ll_core.specs.Relations.{has_pair, Extends, Reaches};
 
+use crate::grammar::key;
 use std::alloc::{AllocError, Global};
 use std::collections::HashSet;
 use std::marker::Model;
-
-use crate::grammar::key;
 
 /// A symbol and another one that it is related to.
 #[derive(Clone, Copy)]

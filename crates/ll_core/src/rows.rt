@@ -1,12 +1,11 @@
 ghost use Rattle.std.specs.Prelude.{◌≡◌, List, IfOk, MatchOption, AllPairs};
 ghost use Rattle.ll_core.specs.Grammars.{AreApart};
 
+use crate::grammar::key;
+use crate::production::Row;
 use std::alloc::{AllocError, Global};
 use std::collections::HashMap;
 use std::marker::Model;
-
-use crate::grammar::key;
-use crate::production::Row;
 
 /// Prediction rows, to be found by left side and token.
 #[derive(Drop)]

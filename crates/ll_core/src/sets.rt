@@ -5,13 +5,12 @@ ghost use Rattle.ll_core.specs.Trees.{is_left, right_of, end_of_text};
 ghost use Rattle.ll_core.specs.Grammars.{AreProductions};
 ghost use Rattle.ll_core.specs.Sets.{ArePredictionSets, is_predicted};
 
-use std::alloc::{AllocError, Global};
-
 use crate::derivable::deriving_lefts;
 use crate::places::{Places, places_of};
 use crate::production::{END_OF_TEXT, Production};
 use crate::relation::{Relation, closure, lead_back};
 use crate::symbols::SymbolSet;
+use std::alloc::{AllocError, Global};
 
 /// The sets by which the productions of a grammar are predicted.
 /// (Aho, Lam, Sethi and Ullman, section 4.4.2.)

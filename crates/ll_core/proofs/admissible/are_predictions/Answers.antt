@@ -8,7 +8,7 @@ pub loop-row-preserved : goal.loop-row-preserved
 loop-row-preserved c =
     let d : Row = record { left = 0; token = 0; production = 0 } in
     All_more (λ row. IsPrediction c.args.productions.now row) c.args.rows.now c.loop-row.row-index d c.loop-row-test.true c.loop-row.invariant
-      (c.is_prediction.ensures.0 c.if-not-is_prediction.false)
+    (c.is_prediction.ensures.0 c.if-not-is_prediction.false)
 
 pub returns : goal.returns
 returns c =

@@ -9,5 +9,5 @@ returns c =
     let sets = c.args.sets.now in
     let lt : c.from-number.result < length c.args.productions.now = omega arith in
     let is = row-predicted c.args.productions.now sets.nothing sets.first sets.follow c.requires.productions c.requires.sets c.args.row c.from-number.result d
-        c.from-number.ensures lt c.if-productions-number.false in
+    c.from-number.ensures lt c.if-productions-number.false in
     ((λ e. is.0 (sym c.is_predicted.ensures ∙ e)), (λ p. c.is_predicted.ensures ∙ is.1 p))

@@ -1,4 +1,4 @@
-use Rattle.std.proofs.Common.{◌≡◌, ◌<◌, ◌≤◌, ◌+◌, ◌-◌, ℕ, [], ◌∷◌, ◌++◌, length, get_or, drop, rules, arith, sym, ap, ◌∙◌, subst, reverse, take, Some}
+use Rattle.std.proofs.Common.{◌≡◌, ◌≤◌, ◌+◌, ◌++◌, length, drop, rules, arith, ap, ◌∙◌, reverse, Some}
 use Rattle.ll_core.specs.Trees.{deepening, right_of}
 use Rattle.ll_core.specs.Stacks.{expected_at}
 use Rattle.ll_core.proofs.Pushing.{push_one, nested}
@@ -6,10 +6,9 @@ use Rattle.ll_core.proofs.parser.expect_right.Goals as goal
 
 pub loop-i-preserved : goal.loop-i-preserved
 loop-i-preserved c =
-
     let fits : c.args.production.now.length ≤ length c.args.production.now.right = search rules in
     push_one c.args.production.now c.loop-i.i (c.args.nesting + c.from.result) c.loop-i.stack.items c.push.new.self.items (reverse c.args.stack.now.items)
-      (omega arith) (omega arith) fits c.loop-i.invariant c.in_ok-push.ensures.items
+    (omega arith) (omega arith) fits c.loop-i.invariant c.in_ok-push.ensures.items
 
 pub returns : goal.returns
 returns c =

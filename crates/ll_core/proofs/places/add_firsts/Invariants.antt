@@ -1,6 +1,6 @@
 use Rattle.std.proofs.Common.{◌==◌, ◌&&◌}
 use Rattle.ll_core.specs.Members.{has}
-use Rattle.ll_core.specs.Places.{first_symbols, is_beside, is_end, is_token_in}
+use Rattle.ll_core.specs.Places.{first_symbols}
 use Rattle.ll_core.proofs.Adding.{Adding}
 use Rattle.ll_core.proofs.places.add_firsts.Given as goal
 

@@ -1,6 +1,4 @@
-use Rattle.std.proofs.Common.{◌==◌, ◌&&◌}
-use Rattle.ll_core.specs.Members.{has}
-use Rattle.ll_core.specs.Places.{first_symbols, is_beside, is_end, is_token_in}
+use Rattle.ll_core.specs.Places.{is_token_in}
 use Rattle.ll_core.proofs.Adding.{Adding}
 use Rattle.ll_core.proofs.places.add_tokens.Given as goal
 

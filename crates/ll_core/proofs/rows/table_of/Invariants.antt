@@ -5,5 +5,5 @@ use Rattle.ll_core.proofs.rows.table_of.Given as goal
 abbrev pub invariant-loop-row : goal.invariant-loop-row
 invariant-loop-row l = record {
   taken : l.table ≡ take l.row-index l.rows;
-  apart : AllPairs AreApart l.table
+  apart : AllPairs AreApart l.table;
 }

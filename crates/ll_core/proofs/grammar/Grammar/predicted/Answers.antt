@@ -14,4 +14,4 @@ pub returns-clause-all : goal.returns-clause-all
 returns-clause-all g c m prediction =
     let tables = subst (λ (ps : List Production). AreTables ps c.self.inside.lefts c.self.inside.rows) c.self.view_is c.self.invariant in
     c.find.ensures ∙ Contains-production_at c.self.inside.rows (record { left = c.args.left; token = c.args.token; production = m }) tables.grammar.admissible
-      (tables.grammar.complete (record { left = c.args.left; token = c.args.token; production = m }) prediction)
+    (tables.grammar.complete (record { left = c.args.left; token = c.args.token; production = m }) prediction)

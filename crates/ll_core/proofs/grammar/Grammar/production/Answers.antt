@@ -6,4 +6,4 @@ pub returns-clause-sentence : goal.returns-clause-sentence
 returns-clause-sentence g c =
     let in_range : c.from.result < length c.self.inside.productions = search rules in
     right_at c.self.inside.productions c.args.self.now c.self.view_is c.self.invariant.grammar.productions_are c.from.result
-      (record { left = 0; nests = false; right = []; length = 0 }) in_range
+    (record { left = 0; nests = false; right = []; length = 0 }) in_range
