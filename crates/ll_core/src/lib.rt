@@ -15,6 +15,8 @@ mod relation;
 mod rows;
 mod sets;
 mod symbols;
+#[cfg(test)]
+mod tests;
 
 pub use derivation::Derivation;
 pub use grammar::{Grammar, GrammarStop};
