@@ -127,7 +127,7 @@ def main():
         for name, members in (("sentences", sentences), ("nothing", nothing)):
             print(f"{name} = {' ∷ '.join(f'member {m} {n}' for m, n in members)} ∷ []")
         for name, members in (("first", first), ("follow", follow)):
-            print(f"{name} = {' ∷ '.join(f'token {m[0]} {m[1]} {n}' for m, n in members)} ∷ []")
+            print(f"{name} = {' ∷ '.join(f'token_member {m[0]} {m[1]} {n}' for m, n in members)} ∷ []")
 
 
 main()

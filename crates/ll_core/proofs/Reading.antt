@@ -93,3 +93,7 @@ bool_le false = omega arith
 
 pub deepening-le : (p : Production) → deepening (Some p) ≤ 1
 deepening-le p = bool_le p.nests
+
+pub bounded_start : (symbol n : ℕ) → All (λ (e : Expected). e.nesting ≤ n) (record { symbol = symbol; nesting = 0 } ∷ [])
+bounded_start symbol n zero d l = omega arith
+bounded_start symbol n (suc k) d l = absurd (omega arith)

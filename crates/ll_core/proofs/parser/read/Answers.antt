@@ -1,10 +1,11 @@
-use Rattle.std.proofs.Common.{◌≡◌, ◌≢◌, ◌<◌, ◌+◌, true, false, [], ◌∷◌, ◌++◌, length, get_or, rules, arith, sym, ap, ◌∙◌, subst, reverse, Some}
+use Rattle.std.proofs.Common.{◌≡◌, ◌≢◌, ◌<◌, ◌+◌, true, false, [], ◌∷◌, ◌++◌, length, get_or, rules, arith, sym, ap, ◌∙◌, subst, reverse, Some, List, ℕ}
+use Rattle.ll_core.specs.declared.parser.Expected.{Expected}
 use Rattle.std.proofs.lemmas.Option.{slice_get_within}
 use Rattle.ll_core.specs.Trees.{is_left, deepening, right_of}
 use Rattle.ll_core.specs.Stacks.{expected_at}
 use Rattle.ll_core.proofs.Progress.{Progress}
-use Rattle.ll_core.proofs.Reading.{turn_other, turn_deep, turn_shift, turn_unpredicted, turn_expand, turn_bounded, turn_nesting, turn_bounded_expand, deepening-le}
-use Rattle.ll_core.proofs.Endings.{stops_before_rest, parsed, only_parse}
+use Rattle.ll_core.proofs.Reading.{turn_other, turn_deep, turn_shift, turn_unpredicted, turn_expand, turn_bounded, turn_nesting, turn_bounded_expand, bounded_start, deepening-le}
+use Rattle.ll_core.proofs.Endings.{stops_before_rest, parsed, only_parse, Progress-start}
 use Rattle.ll_core.proofs.parser.read.Goals as goal
 use Rattle.ll_core.proofs.parser.read.Goals.{then-k-tokens-via-then-k-tokens, then-k-tokens-via-else-k-tokens+then-tokens-k}
 
@@ -85,3 +86,15 @@ returns-clause-only g c =
     let all : c.loop-expected.k ≡ length c.args.tokens.now = (let h = now.in_range in omega arith) in
     let read = subst (λ k. Progress c.args.grammar.now c.args.tokens.now k c.loop-expected.numbers.items []) all now in
     rw c.new.ensures (only_parse c.args.grammar.now c.args.tokens.now c.loop-expected.numbers.items read)
+
+pub loop-expected-init : goal.loop-expected-init
+loop-expected-init g c =
+    let start : Expected = record { symbol = c.start-symbol.result; nesting = 0 } in
+    let pushed : reverse c.push.new.self.items ≡ start ∷ [] =
+        ap reverse (c.in_ok-push.ensures.items ∙ ap (λ (es : List Expected). es ++ start ∷ []) c.new-stack.ensures.items) in
+    let begun = Progress-start c.args.grammar.now c.args.tokens.now c.start-symbol.result c.start-symbol.ensures.first c.start-symbol.ensures.left c.start-symbol.ensures.sentence in
+    record {
+      progress = subst (λ (es : List Expected). Progress c.args.grammar.now c.args.tokens.now 0 c.new-numbers.result.items es) (sym pushed)
+        (subst (λ (ns : List ℕ). Progress c.args.grammar.now c.args.tokens.now 0 ns (start ∷ [])) (sym c.new-numbers.ensures.items) begun);
+      bounded = rw pushed (bounded_start c.start-symbol.result (length c.new-numbers.result.items))
+    }
