@@ -1,11 +1,11 @@
 #!/usr/bin/env python3
 """Writes the tables of a grammar, and the lists by which they are shown to be right.
 
-    tools/tables.py rust|antt|bench < GRAMMAR
+    tools/tables.py rust|module|antt < GRAMMAR
 
 Each line of GRAMMAR is a production: its left side, `->`, and its right side; a `!` before the left side marks one
 that nests. Left sides are numbered from 0 in the order in which they come, tokens from there on. `rust` prints the
-productions and the prediction rows, `bench` a module of them for the benchmark, `antt` the lists of members, each with the production that puts it there by the
+productions and the prediction rows, `module` a module that lends them, `antt` the lists of members, each with the production that puts it there by the
 members before it.
 """
 import sys
@@ -98,31 +98,51 @@ def sets_of(productions):
     return sentence_order, nothing_order, first_order, follow_order, sorted(rows)
 
 
+MODULE_HEAD = """use ll_core::{Production, Row};
+
+macro_rules! productions {
+    ($($left:literal $nests:literal $length:literal: $($right:literal)*);* $(;)?) => {
+        [$(Production { left: $left, nests: $nests, right: [$($right),*], length: $length }),*]
+    };
+}
+
+macro_rules! rows {
+    ($($left:literal $token:literal $production:literal);* $(;)?) => {
+        [$(Row { left: $left, token: $token, production: $production }),*]
+    };
+}
+"""
+
+
+def print_productions(productions):
+    for left, nests, right in productions:
+        padded = right + [0] * (12 - len(right))
+        print(f"    {left} {str(nests).lower()} {len(right)}: {' '.join(map(str, padded))};")
+
+
+def print_rows(rows):
+    for i in range(0, len(rows), 6):
+        print("    " + " ".join(f"{a} {b} {c};" for a, b, c in rows[i : i + 6]))
+
+
 def main():
     names, productions = number(read(sys.stdin.readlines()))
     sentences, nothing, first, follow, rows = sets_of(productions)
     if sys.argv[1] == "rust":
         print(f"// {', '.join(f'{n} {name}' for name, n in names.items())}")
         print(f"productions {len(productions)}")
-        for left, nests, right in productions:
-            padded = right + [0] * (12 - len(right))
-            print(f"    {left} {str(nests).lower()} {len(right)}: {' '.join(map(str, padded))};")
+        print_productions(productions)
         print(f"rows {len(rows)}")
-        for i in range(0, len(rows), 6):
-            print("    " + " ".join(f"{a} {b} {c};" for a, b, c in rows[i : i + 6]))
-    elif sys.argv[1] == "bench":
-        operators = [n for name, n in names.items() if name.startswith("op")]
-        print("use ll_core::{Production, Row};")
-        print(f"pub const NAME: u16 = {names['name']};\npub const END: u16 = {names[';']};")
-        print(f"pub const OPERATORS: [u16; {len(operators)}] = {operators};")
-        print(f"pub const PRODUCTIONS: [Production; {len(productions)}] = [")
-        for left, nests, right in productions:
-            padded = right + [0] * (12 - len(right))
-            print(f"Production {{ left: {left}, nests: {str(nests).lower()}, right: {padded}, length: {len(right)} }},")
-        print(f"];\npub const ROWS: [Row; {len(rows)}] = [")
-        for left, token, production in rows:
-            print(f"Row {{ left: {left}, token: {token}, production: {production} }},")
-        print("];")
+        print_rows(rows)
+    elif sys.argv[1] == "module":
+        print(MODULE_HEAD)
+        print(f"#[rattlefmt::skip]\nstatic PRODUCTIONS: [Production; {len(productions)}] = productions![")
+        print_productions(productions)
+        print(f"];\n\n#[rattlefmt::skip]\nstatic ROWS: [Row; {len(rows)}] = rows![")
+        print_rows(rows)
+        print("];\n")
+        print(f"pub fn productions() -> &'static [Production; {len(productions)}] {{\n    &PRODUCTIONS\n}}\n")
+        print(f"pub fn rows() -> &'static [Row; {len(rows)}] {{\n    &ROWS\n}}")
     else:
         for name, members in (("sentences", sentences), ("nothing", nothing)):
             print(f"{name} = {' ∷ '.join(f'member {m} {n}' for m, n in members)} ∷ []")

@@ -11,7 +11,6 @@ mod tables;
 
 use ll_core::{Grammar, GrammarStop, Production, Row, well_listed_sets_are_true};
 use std::alloc::Global;
-
 pub use tables::{PRODUCTIONS, ROWS};
 
 /// The grammar of the tables.
@@ -29,13 +28,11 @@ pub fn statements(alloc: Global) -> Result<Grammar<44, 140>, GrammarStop>
 
 fn lists_are_right()
     ensures { AreWellListed PRODUCTIONS lists }
-{
-}
+{}
 
 fn rows_are_right()
     ensures { AreWellListedRows PRODUCTIONS lists ROWS }
-{
-}
+{}
 
 fn productions() -> &'static [Production; 44]
     ensures { result.now ≡ PRODUCTIONS }

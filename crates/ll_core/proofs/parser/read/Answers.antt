@@ -91,10 +91,10 @@ pub loop-expected-init : goal.loop-expected-init
 loop-expected-init g c =
     let start : Expected = record { symbol = c.start-symbol.result; nesting = 0 } in
     let pushed : reverse c.push.new.self.items ≡ start ∷ [] =
-        ap reverse (c.in_ok-push.ensures.items ∙ ap (λ (es : List Expected). es ++ start ∷ []) c.new-stack.ensures.items) in
+    ap reverse (c.in_ok-push.ensures.items ∙ ap (λ (es : List Expected). es ++ start ∷ []) c.new-stack.ensures.items) in
     let begun = Progress-start c.args.grammar.now c.args.tokens.now c.start-symbol.result c.start-symbol.ensures.first c.start-symbol.ensures.left c.start-symbol.ensures.sentence in
     record {
       progress = subst (λ (es : List Expected). Progress c.args.grammar.now c.args.tokens.now 0 c.new-numbers.result.items es) (sym pushed)
-        (subst (λ (ns : List ℕ). Progress c.args.grammar.now c.args.tokens.now 0 ns (start ∷ [])) (sym c.new-numbers.ensures.items) begun);
-      bounded = rw pushed (bounded_start c.start-symbol.result (length c.new-numbers.result.items))
+          (subst (λ (ns : List ℕ). Progress c.args.grammar.now c.args.tokens.now 0 ns (start ∷ [])) (sym c.new-numbers.ensures.items) begun);
+      bounded = rw pushed (bounded_start c.start-symbol.result (length c.new-numbers.result.items));
     }
