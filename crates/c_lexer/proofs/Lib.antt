@@ -1,6 +1,5 @@
 mod Cutting
 mod Digits
-mod Listed
 mod Longest
 mod Order
 mod Classes
