@@ -7,6 +7,8 @@ pub mod Tokens
 pub mod Limits
 pub mod Scanning
 pub mod Identifiers
+pub mod Lines
+pub mod Pieces
 pub mod WordClasses
 pub mod Integers
 pub mod Literals

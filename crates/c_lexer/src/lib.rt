@@ -4,10 +4,12 @@
 mod bytes;
 mod identifiers;
 mod integer;
+mod line;
 mod literal;
 #[cfg(test)]
 mod literal_table;
 mod number;
+mod piece;
 mod position;
 mod punctuator;
 mod scanner;

@@ -9,8 +9,11 @@ pub enum TokenClass {
     Word,
     /// A digit, or a point and a digit, and what goes on a number.
     Number,
-    /// A punctuator, or a byte that begins no token.
-    Other,
+    /// One character or an escape between single quotes.
+    Character,
+    /// A text between double quotes.
+    String,
+    Punctuator,
 }
 
 /// A token: its bytes are the slice of the text from `start` on.

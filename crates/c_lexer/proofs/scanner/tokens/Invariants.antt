@@ -1,10 +1,13 @@
-use Rattle.std.proofs.Common.{◌≡◌, ◌+◌, ◌-◌, ◌≤◌, ◌++◌, length, drop, zero}
-use Rattle.c_lexer.specs.Tokens.{tokens_from, tokens_of}
+use Rattle.std.proofs.Common.{◌≡◌, ◌+◌, ◌-◌, ◌≤◌, length, drop, zero}
+use Rattle.c_lexer.specs.Scanning.{behind}
+use Rattle.c_lexer.specs.Slices.{AreInOrder}
+use Rattle.c_lexer.specs.Tokens.{lexed_from, lexed_of}
 use Rattle.c_lexer.proofs.scanner.tokens.Given as goal
 
 abbrev pub invariant-loop-at : goal.invariant-loop-at
 invariant-loop-at l = record {
-  same : l.tokens.items ++ tokens_from zero l.at l.place (drop l.at l.text) ≡ tokens_of l.text;
+  same : behind l.tokens.items (lexed_from zero l.fresh l.at l.place (drop l.at l.text)) ≡ lexed_of l.text;
+  order : AreInOrder 0 l.at l.tokens.items;
   few : length l.tokens.items ≤ 60000;
   within : l.at ≤ length l.text;
   line : l.place.line ≤ l.at + 1;
