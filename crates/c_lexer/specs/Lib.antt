@@ -6,6 +6,7 @@ pub mod Slices
 pub mod Tokens
 pub mod Limits
 pub mod Scanning
+pub mod TypedefNames
 pub mod Identifiers
 pub mod Lines
 pub mod Pieces

@@ -15,7 +15,7 @@ pub fn is_identifier(word: &[u8]) -> bool
     is_word(word) && !is_reserved(word) && word != b"main".as_slice()
 }
 
-fn is_word(word: &[u8]) -> bool
+pub(crate) fn is_word(word: &[u8]) -> bool
     ensures { result ≡ is_word word.now }
 {
     match word {

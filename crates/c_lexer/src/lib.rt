@@ -16,6 +16,7 @@ mod scanner;
 mod token;
 #[cfg(test)]
 mod token_table;
+mod typedef_name;
 mod word_class;
 
 pub use identifiers::is_identifier;
@@ -24,4 +25,5 @@ pub use literal::{NumberLiteral, character_literal, number_literal};
 pub use position::{FIRST_PLACE, place_after};
 pub use scanner::{MAX_BYTES, MAX_TOKENS, tokens};
 pub use token::{Token, TokenClass};
+pub use typedef_name::{TypedefName, typedef_names};
 pub use word_class::{WordClass, class_of_word, word_table};
