@@ -304,4 +304,28 @@ mod tests {
             );
         }
     }
+
+    #[test]
+    fn a_table_finds_each_word_and_no_neighbour(rt: HostRuntime) {
+        let words = "NULL _Bool __asm __asm__ while";
+        let table = KeyTable::new(words, [4, 3, 2, 1, 0]);
+        for (word, number) in [
+            ("NULL", Some(4)),
+            ("_Bool", Some(3)),
+            ("__asm", Some(2)),
+            ("__asm__", Some(1)),
+            ("while", Some(0)),
+            ("", None),
+            (" ", None),
+            ("whil", None),
+            ("whiles", None),
+            ("_", None),
+            ("zz", None),
+            ("NULL _Bool", None),
+        ] {
+            assert_eq!(rt; table.find(word), number, "{word}");
+        }
+        let empty: KeyTable<0> = KeyTable::new("", []);
+        assert_eq!(rt; empty.find(""), None);
+    }
 }

@@ -15,8 +15,6 @@ mod relation;
 mod rows;
 mod sets;
 mod symbols;
-#[cfg(test)]
-mod tests;
 
 pub use derivation::Derivation;
 pub use grammar::{Grammar, GrammarStop};

@@ -1,5 +1,6 @@
-//! A grammar of statements and expressions, whose tables are shown to be right by computation, so
-//! that there always is a grammar.
+//! A client of the parser: a grammar of statements and expressions, whose tables are shown to be right
+//! by computation, so that there always is a grammar. Its tests compare answers over small grammars
+//! with those that the definitions give.
 
 #![tactic(auto)]
 
@@ -8,6 +9,8 @@ ghost use Rattle.ll_core.specs.ListedSets.{AreWellListed, AreWellListedRows};
 ghost use Rattle.ll_statements.specs.Lists.{lists};
 
 mod tables;
+#[cfg(test)]
+mod tests;
 
 use ll_core::{Grammar, GrammarStop, Production, Row, well_listed_sets_are_true};
 use std::alloc::Global;

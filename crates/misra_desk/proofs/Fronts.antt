@@ -16,14 +16,15 @@ abbrev pub Fronts : List ℕ → ℕ → Option (List ℕ) → Option (List ℕ)
 Fronts text result old new =
     ((result ≡ 4) → WritesFront text file_fault_line old new) × ((result ≡ 5) → WritesFront text [] old new) × ((result ≡ 8) → WritesFront text memory_line old new)
 
-pub fronts_of_answer : (contents old new : Option (List ℕ)) (bytes : List ℕ) (status result : ℕ) → IfSome contents (λ all. IsAnswer (take 262145 all) bytes status)
-    → status ≤ 2 → (result ≡ status) ⊎ (result ≡ 5) ⊎ (result ≡ 8) → (result ≡ 5 → (n : ℕ) × Appends old new (take n bytes))
-    → (result ≡ 8 → (n m : ℕ) × Appends old new (take n bytes ++ take m memory_line)) → IfSome contents (λ all. Fronts (take 262145 all) result old new)
-fronts_of_answer None old new bytes status result answer low ends part memory = tt
-fronts_of_answer (Some all) old new bytes status result answer low ends part memory = (
+pub fronts_of_answer : (contents old new : Option (List ℕ)) (bytes piece : List ℕ) (status result : ℕ) → piece ≡ bytes
+    → IfSome contents (λ all. IsAnswer (take 262145 all) bytes status)
+    → status ≤ 2 → (result ≡ status) ⊎ (result ≡ 5) ⊎ (result ≡ 8) → (result ≡ 5 → (n : ℕ) × Appends old new (take n piece))
+    → (result ≡ 8 → (n m : ℕ) × Appends old new (take n piece ++ take m memory_line)) → IfSome contents (λ all. Fronts (take 262145 all) result old new)
+fronts_of_answer None old new bytes piece status result same answer low ends part memory = tt
+fronts_of_answer (Some all) old new bytes piece status result same answer low ends part memory = (
   λ e. absurd (not_four ends e),
-  λ e. let p = part e in (take p.0 bytes, 0, inr (bytes, status, p.0, answer, refl), rw append-nil p.1),
-  λ e. let p = memory e in (take p.0 bytes, p.1, inr (bytes, status, p.0, answer, refl), p.2),
+  λ e. let p = part e in (take p.0 piece, 0, inr (bytes, status, p.0, answer, rw same refl), rw append-nil p.1),
+  λ e. let p = memory e in (take p.0 piece, p.1, inr (bytes, status, p.0, answer, rw same refl), p.2),
 )
   where
     not_four : (result ≡ status) ⊎ (result ≡ 5) ⊎ (result ≡ 8) → result ≡ 4 → ⊥
@@ -33,6 +34,7 @@ pub front_of_file_fault : (contents old new : Option (List ℕ)) → (n : ℕ) �
 front_of_file_fault None old new wrote = tt
 front_of_file_fault (Some all) old new wrote = (λ e. ([], wrote.0, inl refl, wrote.1), λ e. absurd (omega (arith, e)), λ e. absurd (omega (arith, e)))
 
-pub front_of_memory : (contents old new : Option (List ℕ)) → (n : ℕ) × Appends old new (take n memory_line) → IfSome contents (λ all. Fronts (take 262145 all) 8 old new)
-front_of_memory None old new wrote = tt
-front_of_memory (Some all) old new wrote = (λ e. absurd (omega (arith, e)), λ e. absurd (omega (arith, e)), λ e. ([], wrote.0, inl refl, wrote.1))
+pub front_of_memory : (contents old new : Option (List ℕ)) (result : ℕ) → result ≡ 8 → (n : ℕ) × Appends old new (take n memory_line)
+    → IfSome contents (λ all. Fronts (take 262145 all) result old new)
+front_of_memory None old new result is wrote = tt
+front_of_memory (Some all) old new result is wrote = (λ e. absurd (omega (arith, is, e)), λ e. absurd (omega (arith, is, e)), λ e. ([], wrote.0, inl refl, wrote.1))

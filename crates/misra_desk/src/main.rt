@@ -6,24 +6,32 @@ mod command;
 mod run;
 
 use desk_outside::{StdFiles, StdSink};
+use std::alloc::AllocError;
 use std::env;
+use std::io::ErrorKind;
 use std::process::ExitCode;
-
-/// Where there is no memory for the words and the devices.
-const NO_MEMORY: u8 = 8;
 
 fn main(rt: HostRuntime) -> ExitCode {
     let alloc = rt.alloc();
     let mut out = StdSink::new(rt.stdout());
-    let words: Vec<String> = match env::args(&rt) {
-        Ok(arguments) => match arguments.skip(1).collect(alloc) {
-            Ok(words) => words,
-            Err(_) => return ExitCode::from(NO_MEMORY),
-        },
-        Err(_) => Vec::new(alloc),
+    let status = match words_of_line(&rt) {
+        Ok(words) => {
+            let mut files = StdFiles::new(rt);
+            run::run(alloc, &words, &mut files, &mut out)
+        }
+        Err(AllocError) => run::out_of_memory(&mut out),
     };
-    let mut files = StdFiles::new(rt);
-    ExitCode::from(run::run(alloc, &words, &mut files, &mut out))
+    ExitCode::from(status)
+}
+
+/// The words of the command line behind the program's name. Where one is no UTF-8 they are no form, as
+/// no words are.
+fn words_of_line(rt: &HostRuntime) -> Result<Vec<String>, AllocError> {
+    match env::args(rt) {
+        Ok(arguments) => arguments.skip(1).collect(rt.alloc()),
+        Err(error) if error.kind() == ErrorKind::OutOfMemory => Err(AllocError),
+        Err(_) => Ok(Vec::new(rt.alloc())),
+    }
 }
 
 #[cfg(test)]

@@ -88,14 +88,7 @@ pub fn run<F: Files, O: Sink>(alloc: Global, words: &[String], files: &mut F, ou
     first_fault_is_one();
     match file_of(words) {
         Some(name) => check(alloc, name, files, out),
-        None => match write_all(out, USAGE) {
-            Ok(()) => NO_FORM,
-            Err(WriteStop::Failed) => OUTPUT_FAULT,
-            Err(WriteStop::Memory) => {
-                put_line(out, MEMORY_LINE);
-                NO_MEMORY
-            }
-        },
+        None => write_whole(out, USAGE, NO_FORM),
     }
 }
 
@@ -114,15 +107,12 @@ fn check<F: Files, O: Sink>(alloc: Global, name: &str, files: &mut F, out: &mut 
         × ((result ≡ 8) → WritesFront (take 262145 bytes) memory_line (O.written out.old) (O.written out.new))) }
 {
     match answer_to_file(alloc, name, files) {
-        Ok(answer) => write_answer(out, &answer),
+        Ok(answer) => write_whole(out, &answer.bytes, answer.status),
         Err(ReadStop::Failed) => {
             put_line(out, FILE_FAULT_LINE);
             FILE_FAULT
         }
-        Err(ReadStop::Memory) => {
-            put_line(out, MEMORY_LINE);
-            NO_MEMORY
-        }
+        Err(ReadStop::Memory) => out_of_memory(out),
     }
 }
 
@@ -142,24 +132,30 @@ fn answer_to_file<F: Files>(alloc: Global, name: &str, files: &mut F) -> Result<
     Ok(answer_to(alloc, &text)?)
 }
 
-/// Writes an answer, and gives its status where all of it was written.
-fn write_answer<O: Sink>(out: &mut O, answer: &Answer) -> u8
-    requires { answer.now.status ≤ 2 }
-    ensures statuses { (result ≡ answer.now.status) ⊎ (result ≡ 5) ⊎ (result ≡ 8) }
+/// Writes these bytes, and gives the status where all of them were written.
+fn write_whole<O: Sink>(out: &mut O, bytes: &[u8], status: u8) -> u8
+    requires { status ≤ 3 }
+    ensures statuses { (result ≡ status) ⊎ (result ≡ 5) ⊎ (result ≡ 8) }
     ensures output { result ≡ 5 → Rose (O.faults out.old) (O.faults out.new) }
-    ensures output_stays { result ≤ 2 → O.faults out.new ≡ O.faults out.old }
-    ensures whole { result ≤ 2 → Appends (O.written out.old) (O.written out.new) answer.now.bytes.items }
-    ensures part { result ≡ 5 → (n : ℕ) × Appends (O.written out.old) (O.written out.new) (take n answer.now.bytes.items) }
-    ensures memory { result ≡ 8 → (n m : ℕ) × Appends (O.written out.old) (O.written out.new) (take n answer.now.bytes.items ++ take m memory_line) }
+    ensures output_stays { result ≤ 3 → O.faults out.new ≡ O.faults out.old }
+    ensures whole { result ≤ 3 → Appends (O.written out.old) (O.written out.new) bytes.now }
+    ensures part { result ≡ 5 → (n : ℕ) × Appends (O.written out.old) (O.written out.new) (take n bytes.now) }
+    ensures memory { result ≡ 8 → (n m : ℕ) × Appends (O.written out.old) (O.written out.new) (take n bytes.now ++ take m memory_line) }
 {
-    match write_all(out, &answer.bytes) {
-        Ok(()) => answer.status,
+    match write_all(out, bytes) {
+        Ok(()) => status,
         Err(WriteStop::Failed) => OUTPUT_FAULT,
-        Err(WriteStop::Memory) => {
-            put_line(out, MEMORY_LINE);
-            NO_MEMORY
-        }
+        Err(WriteStop::Memory) => out_of_memory(out),
     }
+}
+
+/// Writes the line for want of memory, and gives its status.
+pub(crate) fn out_of_memory<O: Sink>(out: &mut O) -> u8
+    ensures status { result ≡ 8 }
+    ensures line { (n : ℕ) × Appends (O.written out.old) (O.written out.new) (take n memory_line) }
+{
+    put_line(out, MEMORY_LINE);
+    NO_MEMORY
 }
 
 /// Writes the line of a status. That it fails or finds no memory changes nothing any more.

@@ -1,13 +1,20 @@
 use crate::run::run;
 use desk_outside::{MemoryFiles, MemorySink};
-use misra_base::Name;
+use misra_base::{Finding, FindingList, Guideline, Kind, Name, Place, Report, report_bytes};
 use std::alloc::{AllocError, Global};
+use std::process::Abort;
 use std::test::Fail;
 
 const HEAD: &str =
     "#include <threads.h>\nstatic mtx_t m;\nint main(void)\n{\n    (void)mtx_init(&m, mtx_plain);\n";
 
 const TAIL: &str = "    return 0;\n}\n";
+
+/// The eight lines with an unlock that is found.
+const UNLOCK: &str =
+    "#include <threads.h>\nstatic mtx_t m;\nint main(void)\n{\n    (void)mtx_init(&m, mtx_plain);\n    (void)mtx_unlock(&m);\n    return 0;\n}\n";
+
+const FOUND: &str = "report 1\nR22.17 6:11 main m unlock -\nR22.17 1\nfindings 1\n";
 
 const CLEAN: &str = "report 1\nR22.17 clean\nfindings 0\n";
 
@@ -31,16 +38,16 @@ fn end_of(
     alloc: Global,
     given: &[&str],
     text: &[u8],
-    files_failing: Vec<u64>,
-    output_failing: Vec<u64>,
+    files_failing: &[u64],
+    output_failing: &[u64],
 ) -> Result<End, AllocError> {
     let mut named = Vec::new(alloc);
     named.push((
         Name::from_bytes(alloc, b"text.c")?,
         Vec::from_slice(alloc, text)?,
     ))?;
-    let mut files = MemoryFiles::new(alloc, named, files_failing);
-    let mut out = MemorySink::new(alloc, output_failing);
+    let mut files = MemoryFiles::new(alloc, named, Vec::from_slice(alloc, files_failing)?);
+    let mut out = MemorySink::new(alloc, Vec::from_slice(alloc, output_failing)?);
     let status = run(alloc, &words(alloc, given)?, &mut files, &mut out);
     Ok(End {
         bytes: Vec::from_slice(alloc, out.bytes())?,
@@ -48,25 +55,41 @@ fn end_of(
     })
 }
 
-fn checked(alloc: Global, text: &str) -> Result<End, AllocError> {
-    end_of(
-        alloc,
-        &["check", "text.c"],
-        text.as_bytes(),
-        Vec::new(alloc),
-        Vec::new(alloc),
-    )
+/// Shows that `check` over this text writes this output and ends with this status.
+fn expect(
+    rt: &impl Abort,
+    alloc: Global,
+    text: &str,
+    output: &str,
+    status: u8,
+) -> Result<(), Fail> {
+    let end = end_of(alloc, &["check", "text.c"], text.as_bytes(), &[], &[])?;
+    assert_eq!(rt; end.bytes.as_slice(), output.as_bytes(), "{text}");
+    assert_eq!(rt; end.status, status, "{text}");
+    Ok(())
+}
+
+/// A whole text of the form with these lines at its end.
+fn framed(alloc: Global, lines: &str) -> Result<String, AllocError> {
+    let mut text = String::from_str(alloc, HEAD)?;
+    text.push_str(lines)?;
+    text.push_str(TAIL)?;
+    Ok(text)
+}
+
+fn repeated(alloc: Global, piece: &str, count: usize) -> Result<String, AllocError> {
+    let mut text = String::new(alloc);
+    for _ in 0..count {
+        text.push_str(piece)?;
+    }
+    Ok(text)
 }
 
 #[test]
 fn texts_of_the_form_are_judged_and_others_refused(rt: HostRuntime) -> Result<(), Fail> {
     let alloc = rt.alloc();
-    let rows = [
-        (
-            "    (void)mtx_unlock(&m);\n",
-            "report 1\nR22.17 6:11 main m unlock -\nR22.17 1\nfindings 1\n",
-            1,
-        ),
+    for (lines, output, status) in [
+        ("    (void)mtx_unlock(&m);\n", FOUND, 1),
         (
             "    (void)mtx_lock(&m);\n    (void)mtx_unlock(&m);\n",
             CLEAN,
@@ -95,12 +118,8 @@ fn texts_of_the_form_are_judged_and_others_refused(rt: HostRuntime) -> Result<()
             2,
         ),
         ("    return 00;\n", "refused U0 6:12 not-built\n", 2),
-    ];
-    for (line, output, status) in rows {
-        let text = format!(in alloc; "{HEAD}{line}{TAIL}")?;
-        let end = checked(alloc, text.as_str())?;
-        assert_eq!(rt; end.bytes.as_slice(), output.as_bytes(), "{line}");
-        assert_eq!(rt; end.status, status, "{line}");
+    ] {
+        expect(&rt, alloc, framed(alloc, lines)?.as_str(), output, status)?;
     }
     Ok(())
 }
@@ -108,7 +127,7 @@ fn texts_of_the_form_are_judged_and_others_refused(rt: HostRuntime) -> Result<()
 #[test]
 fn a_text_is_refused_where_it_leaves_the_form(rt: HostRuntime) -> Result<(), Fail> {
     let alloc = rt.alloc();
-    let rows = [
+    for (text, output) in [
         ("", "refused U0 1:1 not-built\n"),
         ("#include <threads.h>", "refused U0 1:21 not-built\n"),
         (
@@ -140,44 +159,29 @@ fn a_text_is_refused_where_it_leaves_the_form(rt: HostRuntime) -> Result<(), Fai
             "int main(void) { return 0; }\n;",
             "refused U0 2:1 not-built\n",
         ),
-        (
-            "int main(void) { return 0; } \n ",
-            "report 1\nR22.17 clean\nfindings 0\n",
-        ),
-        (
-            "int\tmain ( void ){return 0;}",
-            "report 1\nR22.17 clean\nfindings 0\n",
-        ),
-    ];
-    for (text, output) in rows {
-        let end = checked(alloc, text)?;
-        assert_eq!(rt; end.bytes.as_slice(), output.as_bytes(), "{text}");
-        assert_eq!(rt; end.status == 2, output.starts_with("refused"), "{text}");
+    ] {
+        expect(&rt, alloc, text, output, 2)?;
+    }
+    for text in [
+        "int main(void) { return 0; } \n ",
+        "int\tmain ( void ){return 0;}",
+    ] {
+        expect(&rt, alloc, text, CLEAN, 0)?;
     }
     Ok(())
-}
-
-fn repeated(alloc: Global, piece: &str, count: usize) -> Result<String, AllocError> {
-    let mut text = String::new(alloc);
-    for _ in 0..count {
-        text.push_str(piece)?;
-    }
-    Ok(text)
 }
 
 #[test]
 fn limits_of_bytes_and_tokens_are_met_exactly(rt: HostRuntime) -> Result<(), Fail> {
     let alloc = rt.alloc();
-    let rows = [
+    for (piece, count, output) in [
         (" ", 262_144, "refused U0 1:262145 not-built\n"),
         (" ", 262_145, "refused U5 1:1 bytes\n"),
         ("a ", 60_000, "refused U0 1:1 not-built\n"),
         ("a ", 60_001, "refused U5 1:120001 tokens\n"),
-    ];
-    for (piece, count, output) in rows {
-        let end = checked(alloc, repeated(alloc, piece, count)?.as_str())?;
-        assert_eq!(rt; end.bytes.as_slice(), output.as_bytes(), "{piece} {count}");
-        assert_eq!(rt; end.status, 2);
+    ] {
+        let text = repeated(alloc, piece, count)?;
+        expect(&rt, alloc, text.as_str(), output, 2)?;
     }
     Ok(())
 }
@@ -185,14 +189,13 @@ fn limits_of_bytes_and_tokens_are_met_exactly(rt: HostRuntime) -> Result<(), Fai
 #[test]
 fn sixty_four_mutexes_may_be_declared(rt: HostRuntime) -> Result<(), Fail> {
     let alloc = rt.alloc();
-    for (count, output) in [(64, CLEAN), (65, "refused U0 65:1 not-built\n")] {
+    for (count, output, status) in [(64, CLEAN, 0), (65, "refused U0 65:1 not-built\n", 2)] {
         let mut text = String::new(alloc);
         for number in 0..count {
             text.push_str(format!(in alloc; "static mtx_t m{number};\n")?.as_str())?;
         }
         text.push_str("int main(void) { (void)mtx_init(&m63, mtx_plain); return 0; }\n")?;
-        let end = checked(alloc, text.as_str())?;
-        assert_eq!(rt; end.bytes.as_slice(), output.as_bytes(), "{count}");
+        expect(&rt, alloc, text.as_str(), output, status)?;
     }
     Ok(())
 }
@@ -200,25 +203,18 @@ fn sixty_four_mutexes_may_be_declared(rt: HostRuntime) -> Result<(), Fail> {
 #[test]
 fn a_depth_of_eight_stands_for_more(rt: HostRuntime) -> Result<(), Fail> {
     let alloc = rt.alloc();
-    for (count, output) in [
-        (8, CLEAN),
-        (
-            9,
-            "report 1\nR22.17 23:11 main m unlock -\nR22.17 1\nfindings 1\n",
-        ),
-    ] {
-        let locks = repeated(alloc, "    (void)mtx_lock(&m);\n", count)?;
-        let unlocks = repeated(alloc, "    (void)mtx_unlock(&m);\n", count)?;
-        let text = format!(in alloc; "{HEAD}{locks}{unlocks}{TAIL}")?;
-        let end = checked(alloc, text.as_str())?;
-        assert_eq!(rt; end.bytes.as_slice(), output.as_bytes(), "{count}");
+    let ninth = "report 1\nR22.17 23:11 main m unlock -\nR22.17 1\nfindings 1\n";
+    for (count, output, status) in [(8, CLEAN, 0), (9, ninth, 1)] {
+        let mut lines = repeated(alloc, "    (void)mtx_lock(&m);\n", count)?;
+        lines.push_str(repeated(alloc, "    (void)mtx_unlock(&m);\n", count)?.as_str())?;
+        let text = framed(alloc, lines.as_str())?;
+        expect(&rt, alloc, text.as_str(), output, status)?;
     }
     Ok(())
 }
 
 #[test]
 fn words_that_are_no_form_get_the_usage_line(rt: HostRuntime) -> Result<(), Fail> {
-    let alloc = rt.alloc();
     let usage = "usage: check FILE, plan FILE PROJECT, summary PROJECT, serve COUNT, demo NUMBER\n";
     let rows: [&[&str]; 6] = [
         &[],
@@ -229,48 +225,32 @@ fn words_that_are_no_form_get_the_usage_line(rt: HostRuntime) -> Result<(), Fail
         &["summary", "p"],
     ];
     for given in rows {
-        let end = end_of(alloc, given, b"", Vec::new(alloc), Vec::new(alloc))?;
+        let end = end_of(rt.alloc(), given, b"", &[], &[])?;
         assert_eq!(rt; end.bytes.as_slice(), usage.as_bytes());
         assert_eq!(rt; end.status, 3);
     }
     Ok(())
 }
 
-/// The eight lines with an unlock that is found.
-const UNLOCK: &str =
-    "#include <threads.h>\nstatic mtx_t m;\nint main(void)\n{\n    (void)mtx_init(&m, mtx_plain);\n    (void)mtx_unlock(&m);\n    return 0;\n}\n";
-
-const FOUND: &str = "report 1\nR22.17 6:11 main m unlock -\nR22.17 1\nfindings 1\n";
-
 #[test]
 fn each_call_that_fails_has_the_status_of_its_device(rt: HostRuntime) -> Result<(), Fail> {
-    let alloc = rt.alloc();
-    // Which call of a device is the first behind all that are made, and what a fault leaves.
-    for (of_files, free, output, status) in [(true, 4, "file fault\n", 4), (false, 2, "", 5)] {
-        for call in 1..=free {
-            let failing = vec![in alloc; call]?;
-            let none = Vec::new(alloc);
-            let (files, out) = if of_files {
-                (failing, none)
-            } else {
-                (none, failing)
-            };
-            let end = end_of(alloc, &["check", "text.c"], UNLOCK.as_bytes(), files, out)?;
-            let (want, code) = if call < free {
-                (output, status)
-            } else {
-                (FOUND, 1)
-            };
-            assert_eq!(rt; end.bytes.as_slice(), want.as_bytes(), "call {call}");
-            assert_eq!(rt; end.status, code, "call {call}");
-        }
-    }
-    // The name of no file, and then an output that takes no line either.
-    for (failing, output) in [(9, "file fault\n"), (1, "")] {
-        let out = vec![in alloc; failing]?;
-        let end = end_of(alloc, &["check", "none.c"], b"", Vec::new(alloc), out)?;
-        assert_eq!(rt; end.bytes.as_slice(), output.as_bytes());
-        assert_eq!(rt; end.status, 4);
+    // The file, the failing call of the files and that of the output, and what is left. The fourth
+    // call of the files and the second of the output are not made any more.
+    let rows: [(&str, &[u64], &[u64], &str, u8); 8] = [
+        ("text.c", &[1], &[], "file fault\n", 4),
+        ("text.c", &[2], &[], "file fault\n", 4),
+        ("text.c", &[3], &[], "file fault\n", 4),
+        ("text.c", &[4], &[], FOUND, 1),
+        ("text.c", &[], &[1], "", 5),
+        ("text.c", &[], &[2], FOUND, 1),
+        ("none.c", &[], &[], "file fault\n", 4),
+        ("none.c", &[], &[1], "", 4),
+    ];
+    for (name, files, output, left, status) in rows {
+        let given = ["check", name];
+        let end = end_of(rt.alloc(), &given, UNLOCK.as_bytes(), files, output)?;
+        assert_eq!(rt; end.bytes.as_slice(), left.as_bytes(), "{name}");
+        assert_eq!(rt; end.status, status, "{name}");
     }
     Ok(())
 }
@@ -279,7 +259,13 @@ fn each_call_that_fails_has_the_status_of_its_device(rt: HostRuntime) -> Result<
 /// memory is there.
 #[test]
 fn want_of_memory_is_answered_by_8_or_not_met(rt: HostRuntime) {
-    if let Ok(end) = checked(rt.alloc(), UNLOCK) {
+    if let Ok(end) = end_of(
+        rt.alloc(),
+        &["check", "text.c"],
+        UNLOCK.as_bytes(),
+        &[],
+        &[],
+    ) {
         let want = if end.status == 8 {
             "out of memory\n"
         } else {
@@ -288,4 +274,32 @@ fn want_of_memory_is_answered_by_8_or_not_met(rt: HostRuntime) {
         assert_eq!(rt; end.bytes.as_slice(), want.as_bytes());
         assert!(rt; end.status == 1 || end.status == 8);
     }
+}
+
+#[test]
+fn a_line_of_the_report_names_the_other_place(rt: HostRuntime) -> Result<(), Fail> {
+    let alloc = rt.alloc();
+    let finding = Finding {
+        guideline: Guideline::R22_17,
+        place: Place {
+            line: 6,
+            column: 11,
+        },
+        other: Some(Place {
+            line: 19,
+            column: 5,
+        }),
+        function: Name::from_bytes(alloc, b"main")?,
+        object: Name::from_bytes(alloc, b"m")?,
+        kind: Kind::Unlock,
+    };
+    let mut found = Vec::new(alloc);
+    found.push(finding)?;
+    let report = Report {
+        found: FindingList::from_vec(found),
+    };
+    let bytes = report_bytes(alloc, &report, &[Guideline::R22_17])?;
+    let wanted = "report 1\nR22.17 6:11 main m unlock 19:5\nR22.17 1\nfindings 1\n";
+    assert_eq!(rt; bytes.as_slice(), wanted.as_bytes());
+    Ok(())
 }

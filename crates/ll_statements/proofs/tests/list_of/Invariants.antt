@@ -1,4 +1,4 @@
-use Rattle.ll_core.proofs.tests.list_of.Given as goal
+use Rattle.ll_statements.proofs.tests.list_of.Given as goal
 
 abbrev pub decreases-loop-rest : goal.decreases-loop-rest
 decreases-loop-rest l = l.rest

@@ -1,6 +1,6 @@
 ghost use Rattle.std.specs.Prelude.{◌≢◌, All, IsTrue};
 
-use crate::{Derivation, END_OF_TEXT, Grammar, GrammarStop, ParseStop, Production, Row, parse};
+use ll_core::{Derivation, END_OF_TEXT, Grammar, GrammarStop, ParseStop, Production, Row, parse};
 use std::alloc::{AllocError, Global};
 use std::process::Abort;
 use std::test::Fail;
