@@ -1,8 +1,8 @@
 -- What was written before a fault is a front of the answer.
-use Rattle.std.proofs.Common.{◌≡◌, ◌≤◌, ◌⊎◌, inl, inr, ℕ, List, [], ◌++◌, length, take, append-nil, None, Some, IfSome, Result, Ok, Err, OnOk, OnErr, refl, arith}
+use Rattle.std.proofs.Common.{◌≡◌, ◌≤◌, ◌⊎◌, inl, inr, ℕ, List, [], ◌++◌, length, take, append-nil, None, Some, IfSome, Result, Ok, Err, OnOk, OnErr, refl, ap, subst, ◌∙◌, arith}
 use Rattle.std.proofs.Math.Seq.{take-length}
 use Rattle.std.specs.declared.option.Option.{Option}
-use Rattle.std.specs.Io.KnownBytes.{Appends}
+use Rattle.std.specs.Io.KnownBytes.{Appends, Keeps}
 use Rattle.misra_desk.specs.Answers.{IsAnswer, WritesFront, file_fault_line, memory_line}
 
 -- all of a line, or after an error the first of it
@@ -38,3 +38,11 @@ pub front_of_memory : (contents old new : Option (List ℕ)) (result : ℕ) → 
     → IfSome contents (λ all. Fronts (take 262145 all) result old new)
 front_of_memory None old new result is wrote = tt
 front_of_memory (Some all) old new result is wrote = (λ e. absurd (omega (arith, is, e)), λ e. absurd (omega (arith, is, e)), λ e. ([], wrote.0, inl refl, wrote.1))
+
+-- what is answered to the bytes read is answered to the first bytes of the file
+pub of_first_bytes : (contents left : Option (List ℕ)) (limit : ℕ) (text : List ℕ) (P : List ℕ → Type 0) → Keeps contents left
+    → IfSome left (λ all. text ≡ take limit all) → limit ≡ 262145 → P text → IfSome contents (λ all. P (take 262145 all))
+of_first_bytes None left limit text P keeps is_text is p = tt
+of_first_bytes (Some all) None limit text P keeps is_text is p = absurd keeps
+of_first_bytes (Some all) (Some rest) limit text P keeps is_text is p =
+    subst (λ (k : ℕ). P (take k all)) is (subst P (is_text ∙ ap (λ (bs : List ℕ). take limit bs) keeps) p)

@@ -16,12 +16,21 @@ const UNLOCK: &str =
 
 const FOUND: &str = "report 1\nR22.17 6:11 main m unlock -\nR22.17 1\nfindings 1\n";
 
+const USAGE: &str =
+    "usage: check FILE, plan FILE PROJECT, summary PROJECT, serve COUNT, demo NUMBER\n";
+
 const CLEAN: &str = "report 1\nR22.17 clean\nfindings 0\n";
 
-/// What the program wrote, and its status.
-#[derive(Drop)]
-struct End {
-    bytes: Vec<u8>,
+/// One run of the program over the file `text.c`, with what it writes and its status.
+#[derive(Clone, Copy)]
+struct Case<'a> {
+    words: &'a [&'a str],
+    text: &'a str,
+    /// The numbers of the calls of the files that fail.
+    files_failing: &'a [u64],
+    /// The numbers of the calls of the output that fail.
+    output_failing: &'a [u64],
+    output: &'a str,
     status: u8,
 }
 
@@ -33,40 +42,36 @@ fn words(alloc: Global, given: &[&str]) -> Result<Vec<String>, AllocError> {
     Ok(words)
 }
 
-/// Runs the program over one file `text.c`, where these calls of the files and of the output fail.
-fn end_of(
-    alloc: Global,
-    given: &[&str],
-    text: &[u8],
-    files_failing: &[u64],
-    output_failing: &[u64],
-) -> Result<End, AllocError> {
+fn files_of(alloc: Global, case: &Case) -> Result<MemoryFiles, AllocError> {
+    let name = Name::from_bytes(alloc, b"text.c")?;
+    let content = Vec::from_slice(alloc, case.text.as_bytes())?;
     let mut named = Vec::new(alloc);
-    named.push((
-        Name::from_bytes(alloc, b"text.c")?,
-        Vec::from_slice(alloc, text)?,
-    ))?;
-    let mut files = MemoryFiles::new(alloc, named, Vec::from_slice(alloc, files_failing)?);
-    let mut out = MemorySink::new(alloc, Vec::from_slice(alloc, output_failing)?);
-    let status = run(alloc, &words(alloc, given)?, &mut files, &mut out);
-    Ok(End {
-        bytes: Vec::from_slice(alloc, out.bytes())?,
-        status,
-    })
+    named.push((name, content))?;
+    let failing = Vec::from_slice(alloc, case.files_failing)?;
+    Ok(MemoryFiles::new(alloc, named, failing))
 }
 
-/// Shows that `check` over this text writes this output and ends with this status.
-fn expect(
-    rt: &impl Abort,
-    alloc: Global,
-    text: &str,
-    output: &str,
-    status: u8,
-) -> Result<(), Fail> {
-    let end = end_of(alloc, &["check", "text.c"], text.as_bytes(), &[], &[])?;
-    assert_eq!(rt; end.bytes.as_slice(), output.as_bytes(), "{text}");
-    assert_eq!(rt; end.status, status, "{text}");
+/// Shows that the program does what the case says.
+fn show(rt: &impl Abort, alloc: Global, case: Case) -> Result<(), Fail> {
+    let Case { text, status, .. } = case;
+    let mut files = files_of(alloc, &case)?;
+    let mut out = MemorySink::new(alloc, Vec::from_slice(alloc, case.output_failing)?);
+    let answered = run(alloc, &words(alloc, case.words)?, &mut files, &mut out);
+    assert_eq!(rt; out.bytes(), case.output.as_bytes(), "{text}");
+    assert_eq!(rt; answered, status, "{text}");
     Ok(())
+}
+
+/// `check` over a text, where no call fails.
+fn checked<'a>(text: &'a str, output: &'a str, status: u8) -> Case<'a> {
+    Case {
+        words: &["check", "text.c"],
+        text,
+        files_failing: &[],
+        output_failing: &[],
+        output,
+        status,
+    }
 }
 
 /// A whole text of the form with these lines at its end.
@@ -119,7 +124,8 @@ fn texts_of_the_form_are_judged_and_others_refused(rt: HostRuntime) -> Result<()
         ),
         ("    return 00;\n", "refused U0 6:12 not-built\n", 2),
     ] {
-        expect(&rt, alloc, framed(alloc, lines)?.as_str(), output, status)?;
+        let text = framed(alloc, lines)?;
+        show(&rt, alloc, checked(text.as_str(), output, status))?;
     }
     Ok(())
 }
@@ -160,13 +166,13 @@ fn a_text_is_refused_where_it_leaves_the_form(rt: HostRuntime) -> Result<(), Fai
             "refused U0 2:1 not-built\n",
         ),
     ] {
-        expect(&rt, alloc, text, output, 2)?;
+        show(&rt, alloc, checked(text, output, 2))?;
     }
     for text in [
         "int main(void) { return 0; } \n ",
         "int\tmain ( void ){return 0;}",
     ] {
-        expect(&rt, alloc, text, CLEAN, 0)?;
+        show(&rt, alloc, checked(text, CLEAN, 0))?;
     }
     Ok(())
 }
@@ -181,7 +187,7 @@ fn limits_of_bytes_and_tokens_are_met_exactly(rt: HostRuntime) -> Result<(), Fai
         ("a ", 60_001, "refused U5 1:120001 tokens\n"),
     ] {
         let text = repeated(alloc, piece, count)?;
-        expect(&rt, alloc, text.as_str(), output, 2)?;
+        show(&rt, alloc, checked(text.as_str(), output, 2))?;
     }
     Ok(())
 }
@@ -195,7 +201,7 @@ fn sixty_four_mutexes_may_be_declared(rt: HostRuntime) -> Result<(), Fail> {
             text.push_str(format!(in alloc; "static mtx_t m{number};\n")?.as_str())?;
         }
         text.push_str("int main(void) { (void)mtx_init(&m63, mtx_plain); return 0; }\n")?;
-        expect(&rt, alloc, text.as_str(), output, status)?;
+        show(&rt, alloc, checked(text.as_str(), output, status))?;
     }
     Ok(())
 }
@@ -208,14 +214,13 @@ fn a_depth_of_eight_stands_for_more(rt: HostRuntime) -> Result<(), Fail> {
         let mut lines = repeated(alloc, "    (void)mtx_lock(&m);\n", count)?;
         lines.push_str(repeated(alloc, "    (void)mtx_unlock(&m);\n", count)?.as_str())?;
         let text = framed(alloc, lines.as_str())?;
-        expect(&rt, alloc, text.as_str(), output, status)?;
+        show(&rt, alloc, checked(text.as_str(), output, status))?;
     }
     Ok(())
 }
 
 #[test]
 fn words_that_are_no_form_get_the_usage_line(rt: HostRuntime) -> Result<(), Fail> {
-    let usage = "usage: check FILE, plan FILE PROJECT, summary PROJECT, serve COUNT, demo NUMBER\n";
     let rows: [&[&str]; 6] = [
         &[],
         &["check"],
@@ -224,10 +229,12 @@ fn words_that_are_no_form_get_the_usage_line(rt: HostRuntime) -> Result<(), Fail
         &["check", "-text.c"],
         &["summary", "p"],
     ];
-    for given in rows {
-        let end = end_of(rt.alloc(), given, b"", &[], &[])?;
-        assert_eq!(rt; end.bytes.as_slice(), usage.as_bytes());
-        assert_eq!(rt; end.status, 3);
+    for words in rows {
+        let case = Case {
+            words,
+            ..checked("", USAGE, 3)
+        };
+        show(&rt, rt.alloc(), case)?;
     }
     Ok(())
 }
@@ -246,11 +253,16 @@ fn each_call_that_fails_has_the_status_of_its_device(rt: HostRuntime) -> Result<
         ("none.c", &[], &[], "file fault\n", 4),
         ("none.c", &[], &[1], "", 4),
     ];
-    for (name, files, output, left, status) in rows {
-        let given = ["check", name];
-        let end = end_of(rt.alloc(), &given, UNLOCK.as_bytes(), files, output)?;
-        assert_eq!(rt; end.bytes.as_slice(), left.as_bytes(), "{name}");
-        assert_eq!(rt; end.status, status, "{name}");
+    for (name, files_failing, output_failing, output, status) in rows {
+        let case = Case {
+            words: &["check", name],
+            text: UNLOCK,
+            files_failing,
+            output_failing,
+            output,
+            status,
+        };
+        show(&rt, rt.alloc(), case)?;
     }
     Ok(())
 }
@@ -259,20 +271,18 @@ fn each_call_that_fails_has_the_status_of_its_device(rt: HostRuntime) -> Result<
 /// memory is there.
 #[test]
 fn want_of_memory_is_answered_by_8_or_not_met(rt: HostRuntime) {
-    if let Ok(end) = end_of(
-        rt.alloc(),
-        &["check", "text.c"],
-        UNLOCK.as_bytes(),
-        &[],
-        &[],
-    ) {
-        let want = if end.status == 8 {
-            "out of memory\n"
-        } else {
-            FOUND
-        };
-        assert_eq!(rt; end.bytes.as_slice(), want.as_bytes());
-        assert!(rt; end.status == 1 || end.status == 8);
+    let alloc = rt.alloc();
+    let case = checked(UNLOCK, FOUND, 1);
+    let (Ok(mut files), Ok(words)) = (files_of(alloc, &case), words(alloc, case.words)) else {
+        return;
+    };
+    let mut out = MemorySink::new(alloc, Vec::new(alloc));
+    match run(alloc, &words, &mut files, &mut out) {
+        8 => assert_eq!(rt; out.bytes(), b"out of memory\n".as_slice()),
+        status => {
+            assert_eq!(rt; out.bytes(), FOUND.as_bytes());
+            assert_eq!(rt; status, 1);
+        }
     }
 }
 

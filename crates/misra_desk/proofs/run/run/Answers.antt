@@ -23,3 +23,12 @@ returns-in-Some-clause-answer g c =
 pub returns-in-Some-clause-front : goal.returns-in-Some-clause-front
 returns-in-Some-clause-front g c =
     of_asked (file_of (texts_of c.args.words.now)) (contents_of (g.F.Files.named c.args.files.now)) _ _ (λ b fronts. fronts) _ c.in-Some.ensures c.check.ensures.front
+
+pub returns-in-Some-clause-files : goal.returns-in-Some-clause-files
+returns-in-Some-clause-files g c = c.check.ensures.files
+
+pub returns-in-Some-clause-files_stay : goal.returns-in-Some-clause-files_stay
+returns-in-Some-clause-files_stay g c = c.check.ensures.files_stay
+
+pub returns-in-Some-clause-output : goal.returns-in-Some-clause-output
+returns-in-Some-clause-output g c = c.check.ensures.output
