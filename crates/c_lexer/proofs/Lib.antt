@@ -3,3 +3,4 @@ mod Digits
 mod Longest
 mod Order
 mod Classes
+mod Naming

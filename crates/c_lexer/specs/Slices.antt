@@ -1,5 +1,5 @@
 -- Tokens as slices of a text.
-use Rattle.std.specs.Prelude.{◌≤◌, ◌<◌, ℕ, ◌+◌, List, [], ◌∷◌}
+use Rattle.std.specs.Prelude.{◌≤◌, ◌<◌, ℕ, ◌+◌, List, [], ◌∷◌, take, drop}
 use Rattle.c_lexer.specs.declared.token.Token.{Token}
 
 -- the tokens have at least one byte each, and stand one behind the other between the two offsets
@@ -10,3 +10,7 @@ AreInOrder from to (token ∷ tokens) = (from ≤ token.start) × (0 < token.len
 -- the slice of a token lies within a text of this length
 abbrev pub IsWithin : ℕ → Token → Type 0
 IsWithin size token = token.start + token.length ≤ size
+
+-- the bytes of a token of this text
+abbrev pub token_text : List ℕ → Token → List ℕ
+token_text text token = take token.length (drop token.start text)
