@@ -162,6 +162,7 @@ def answer(text):
 FRAGMENTS = """a b _x1 ab typedef typedef int struct static mtx_t goto NULL if ( ) { } [ ] ; ; ; , . .. ... + - ++ -> &
     && | = == <= << <<= >>= >= > < ! != * *= / /* */ // " ' \\ # include <threads.h> <stdio.h> line define 7 0 08 0x
     1e 1. .5 0x1p 2147483648 18446744073709551615 u L ll UL 'a' '\\n' "s" '' $ @ ~ ? : ^ % e E p P""".split()
+DECLARATIONS = "typedef typedef int a a b b ; ; ; ( ) [ ] { } NULL goto 1 mtx_t".split()
 BLANKS = [" ", " ", " ", "\t", "\n", "\n", "\r", "\f"]
 
 
@@ -171,12 +172,19 @@ def rust(text):
     return "".join(plain.get(c, c) for c in text)
 
 
+def some_text(chance):
+    """A text of fragments, or one time in three of declarations."""
+    if chance.random() < 0.33:
+        return " ".join(["typedef"] + chance.choices(DECLARATIONS, k=chance.randint(3, 14)))
+    pieces = chance.choices(FRAGMENTS, k=chance.randint(1, 9))
+    return "".join(p + (chance.choice(BLANKS) if chance.random() < 0.45 else "") for p in pieces)
+
+
 def main():
     chance = random.Random(int(sys.argv[1]))
     rows, wanted = set(), int(sys.argv[2])
     while len(rows) < wanted:
-        pieces = chance.choices(FRAGMENTS, k=chance.randint(1, 9))
-        text = "".join(p + (chance.choice(BLANKS) if chance.random() < 0.45 else "") for p in pieces)
+        text = some_text(chance)
         # most of what chance puts together has a fault early on
         if answer(text)[:1] != "U" or chance.random() < 0.25:
             rows.add(text)

@@ -150,7 +150,10 @@ fn a_text_is_refused_where_it_leaves_the_form(rt: HostRuntime) -> Result<(), Fai
         ("/* x", "refused U2 1:1 comment\n"),
         ("#define N 4", "refused U3 1:1 define\n"),
         ("static int x = 09;", "refused U4 1:16 literal\n"),
-        ("int main(void) { return 00; } $", "refused U1 1:31 byte-24\n"),
+        (
+            "int main(void) { return 00; } $",
+            "refused U1 1:31 byte-24\n",
+        ),
         ("static mtx_t int;\n", "refused U0 1:14 not-built\n"),
         ("static mtx_t mtx_lock;\n", "refused U0 1:14 not-built\n"),
         ("static mtx_t main;\n", "refused U0 1:14 not-built\n"),
