@@ -1,0 +1,9 @@
+//! The trees of C texts: which lists of tokens are translation units of the subset (C11 6.9), and where any
+//! other list leaves the grammar.
+#![tactic(auto)]
+
+mod grammar;
+mod tables;
+
+pub use grammar::c_grammar;
+pub use tables::{PRODUCTIONS, ROWS};
