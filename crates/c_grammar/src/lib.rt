@@ -3,7 +3,9 @@
 #![tactic(auto)]
 
 mod grammar;
+mod syntax;
 mod tables;
 
 pub use grammar::c_grammar;
+pub use syntax::derivation;
 pub use tables::{PRODUCTIONS, ROWS};
