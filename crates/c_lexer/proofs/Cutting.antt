@@ -17,6 +17,7 @@ use Rattle.c_lexer.specs.Limits.{StopsBy, fault_or, fault_of, lexical_fault}
 use Rattle.c_lexer.specs.Scanning.{GoesOn, IsWhole, behind, fresh_after}
 use Rattle.c_lexer.specs.TokenClasses.{class_number}
 use Rattle.c_lexer.specs.Tokens.{Lexed, class_of_lexeme, with_piece, lexed_from, lexed_of}
+use Rattle.c_lexer.proofs.ClassNumbers.{class_small}
 use Rattle.c_lexer.proofs.Order.{one_more, goes_further}
 
 -- what is left from an offset on, as code takes it
@@ -84,7 +85,7 @@ goes_token old new kind fresh at n p rest token some is_piece size bound is_toke
       same =
           let cut = at_piece (Cut kind n) fresh at p rest some is_piece size in
           rw (is_new, is_cut) (ap (λ (ts : List Token). record { tokens = ts; fault = (later n fresh at p rest).fault }) (append_assoc old _ _) ∙ ap (λ (l : Lexed). behind old l) (sym cut));
-      order = λ h. rw (is_new, is_cut) (one_more 0 at (at + n) old (cut_token kind at n p rest) h (omega arith) size (omega arith));
+      order = λ h. rw (is_new, is_cut) (one_more 0 at (at + n) old (cut_token kind at n p rest) h (omega arith) size (class_small (class_of_lexeme kind (take n rest))) (omega arith));
     }
 
 stops_same : (fault other : Option Refusal) (stop : CheckStop) → fault ≡ other → StopsBy fault stop → StopsBy other stop

@@ -4,3 +4,4 @@ mod Longest
 mod Order
 mod Classes
 mod Naming
+mod ClassNumbers

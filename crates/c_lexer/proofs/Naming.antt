@@ -1,11 +1,11 @@
 -- Typedef names change the classes of tokens and nothing else.
-use Rattle.std.proofs.Common.{◌≡◌, ◌+◌, ◌<◌, ◌≤◌, ℕ, Bool, true, false, cond, ◌&&◌, ◌||◌, List, [], ◌∷◌, ◌++◌, length, map, Bor, None, refl, sym, ap, subst}
+use Rattle.std.proofs.Common.{◌≡◌, ◌+◌, ◌<◌, ◌≤◌, ℕ, Bool, true, false, cond, ◌&&◌, ◌||◌, List, [], ◌∷◌, ◌++◌, length, map, Bor, None, refl, sym, ap, subst, arith}
 use Rattle.std.proofs.lemmas.List.{map-append}
 use Rattle.std.specs.List.{list_any}
 use Rattle.std.specs.Str.{bytes_eq}
 use Rattle.c_lexer.specs.declared.token.Token.{Token}
 use Rattle.c_lexer.specs.declared.typedef_name.Stretch.{Stretch}
-use Rattle.c_lexer.specs.Slices.{AreInOrder, token_text}
+use Rattle.c_lexer.specs.Slices.{AreInOrder, HasClass, token_text}
 use Rattle.c_lexer.specs.Scanning.{IsWhole}
 use Rattle.c_lexer.specs.Tokens.{Lexed, tokens_of}
 use Rattle.c_lexer.specs.TypedefNames.{has_class, is_name, classed, stretch_behind, names_behind, named_from, with_typedef_names}
@@ -16,12 +16,18 @@ still_there : (b : Bool) (t : Token) → ((cond b (record t { class = class_numb
 still_there true t = (refl, refl)
 still_there false t = (refl, refl)
 
+still_classed : (b : Bool) (t : Token) → HasClass t → HasClass (cond b (record t { class = class_number TypedefName }) t)
+still_classed true t h = omega arith
+still_classed false t h = h
+
 named_in_order : (text : List ℕ) (stretch : Stretch) (names : List (List ℕ)) (from to : ℕ) (tokens : List Token) → AreInOrder from to tokens
     → AreInOrder from to (named_from text stretch names tokens)
 named_in_order text stretch names from to [] h = h
 named_in_order text stretch names from to (t ∷ ts) h =
-    let same = still_there (has_class Identifier t && is_name names (token_text text t)) t in
-    rw (same.0, same.1) (h.0, h.1, named_in_order text (stretch_behind stretch (classed text names t)) (names_behind text stretch names (classed text names t)) (t.start + t.length) to ts h.2)
+    let named = has_class Identifier t && is_name names (token_text text t) in
+    let same = still_there named t in
+    rw (same.0, same.1)
+    (h.0, h.1, still_classed named t h.2, named_in_order text (stretch_behind stretch (classed text names t)) (names_behind text stretch names (classed text names t)) (t.start + t.length) to ts h.3)
 
 pub in_order : (text : List ℕ) (to : ℕ) (tokens : List Token) → AreInOrder 0 to tokens → AreInOrder 0 to (with_typedef_names text tokens)
 unfolding with_typedef_names

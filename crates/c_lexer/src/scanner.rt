@@ -4,7 +4,7 @@ ghost use Rattle.c_lexer.specs.TokenClasses.{number_rows, class_number};
 ghost use Rattle.c_lexer.specs.Pieces.{fault_code, fault_name};
 ghost use Rattle.c_lexer.specs.Tokens.{class_of_lexeme, lexed_from, lexed_of, tokens_of};
 ghost use Rattle.c_lexer.specs.Scanning.{GoesOn, IsWhole, behind};
-ghost use Rattle.c_lexer.specs.Slices.{AreInOrder, IsWithin};
+ghost use Rattle.c_lexer.specs.Slices.{AreInOrder, HasClass, IsWithin};
 ghost use Rattle.c_lexer.specs.Limits.{StopsBy, fault_of, lexical_fault};
 
 use crate::literal::is_floating;
@@ -31,6 +31,7 @@ pub fn tokens(alloc: Global, text: &[u8]) -> Result<Vec<Token>, CheckStop>
     ensures exact { MatchResult result (λ v. (lexical_fault text.now ≡ None) × (v.items ≡ tokens_of text.now)) (StopsBy (lexical_fault text.now)) }
     ensures ordered { IfOk result (λ v. AreInOrder 0 (length text.now) v.items) }
     ensures within { IfOk result (λ v. All (IsWithin (length text.now)) v.items) }
+    ensures classes { IfOk result (λ v. All HasClass v.items) }
 {
     if text.len() > MAX_BYTES {
         return Err(refused(alloc, 5, FIRST_PLACE, b"bytes"));

@@ -4,7 +4,7 @@ use Rattle.c_lexer.specs.Slices.{AreInOrder}
 use Rattle.c_lexer.specs.TypedefNames.{with_typedef_names}
 use Rattle.c_lexer.proofs.Cutting.{no_fault}
 use Rattle.c_lexer.proofs.Naming.{all_tokens, in_order}
-use Rattle.c_lexer.proofs.Order.{all_within}
+use Rattle.c_lexer.proofs.Order.{all_within, all_classed}
 use Rattle.c_lexer.proofs.scanner.tokens.Goals as goal
 
 pub with_typedef_names-requires-clause-within : goal.with_typedef_names-requires-clause-within
@@ -24,4 +24,9 @@ returns-clause-ordered c =
 pub returns-clause-within : goal.returns-clause-within
 returns-clause-within c =
     all_within (length c.args.text.now) _
+    (rw (c.in_ok-with_typedef_names.ensures, c.deref.ensures.value) (in_order c.args.text.now (length c.args.text.now) c.in_ok-cut.cut.items c.in_ok-cut.ensures.ordered))
+
+pub returns-clause-classes : goal.returns-clause-classes
+returns-clause-classes c =
+    all_classed (length c.args.text.now) _
     (rw (c.in_ok-with_typedef_names.ensures, c.deref.ensures.value) (in_order c.args.text.now (length c.args.text.now) c.in_ok-cut.cut.items c.in_ok-cut.ensures.ordered))
