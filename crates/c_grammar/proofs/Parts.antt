@@ -1,5 +1,5 @@
 -- A list of following tokens may be tested in parts.
-use Rattle.std.proofs.Common.{◌≡◌, ℕ, Bool, true, false, cond, ◌&&◌, List, [], ◌∷◌, ◌++◌, slice_get, refl}
+use Rattle.std.proofs.Common.{◌≡◌, ℕ, Bool, true, false, cond, ◌&&◌, List, [], ◌∷◌, ◌++◌, slice_get}
 use Rattle.ll_core.specs.declared.production.Production.{Production}
 use Rattle.ll_core.specs.ListedSets.{Group, TokenMember, with_token, grouped, is_followed_by, are_follow}
 use Rattle.ll_core.specs.Trees.{is_left}

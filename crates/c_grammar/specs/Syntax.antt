@@ -1,6 +1,5 @@
 -- Where the tokens of a text leave the grammar, and how they are refused there.
-use Rattle.std.specs.Prelude.{◌≡◌, ◌⊎◌, ◌==◌, ◌&&◌, ℕ, Bool, false, List, [], ◌∷◌, map, codes, slice_get, if◌then◌else◌, Option, Some, None}
-use Rattle.misra_base.specs.declared.place.Place.{Place}
+use Rattle.std.specs.Prelude.{◌≡◌, ◌⊎◌, ◌==◌, ℕ, Bool, false, List, [], ◌∷◌, map, codes, slice_get, if◌then◌else◌, Option, Some, None}
 use Rattle.misra_base.specs.declared.refusal.Refusal.{Refusal}
 use Rattle.misra_base.specs.declared.refusal.CheckStop.{CheckStop}
 use Rattle.misra_base.specs.declared.refusal.CheckStop.TheVariants.{Refused, Memory}

@@ -1,5 +1,5 @@
 -- There are eighty classes.
-use Rattle.std.proofs.Common.{◌<◌, ℕ, arith}
+use Rattle.std.proofs.Common.{◌<◌, arith}
 use Rattle.c_lexer.specs.declared.token_class.TokenClass.{TokenClass}
 use Rattle.c_lexer.specs.declared.token_class.TokenClass.TheVariants.{Identifier, TypedefName, LibraryType, NamedConstruct, Constant, Static, Extern, Inline, ThreadLocal, Const, Volatile, Atomic, Typedef, Void, Char, Short, Int, Long, Signed, Unsigned, Bool, Struct, Enum, If, Else, While, Do, For, Switch, Case, Default, Break, Continue, Return, Sizeof, LeftBracket, RightBracket, LeftParenthesis, RightParenthesis, LeftBrace, RightBrace, Dot, Arrow, Increment, Decrement, Ampersand, Asterisk, Plus, Minus, Tilde, Exclamation, Slash, Percent, ShiftLeft, ShiftRight, Less, Greater, LessEqual, GreaterEqual, Equal, NotEqual, Caret, Bar, And, Or, Question, Colon, Semicolon, Assign, MultiplyAssign, DivideAssign, RemainderAssign, AddAssign, SubtractAssign, ShiftLeftAssign, ShiftRightAssign, AndAssign, XorAssign, OrAssign, Comma}
 use Rattle.c_lexer.specs.TokenClasses.{class_number}

@@ -1,6 +1,5 @@
-use Rattle.std.proofs.Common.{◌≡◌, ◌∙◌, List, length, ap, subst, sym, arith}
+use Rattle.std.proofs.Common.{◌∙◌, List, length, ap, arith}
 use Rattle.c_lexer.specs.declared.token.Token.{Token}
-use Rattle.c_lexer.specs.Slices.{AreInOrder}
 use Rattle.c_lexer.specs.TypedefNames.{with_typedef_names}
 use Rattle.c_lexer.proofs.Cutting.{no_fault}
 use Rattle.c_lexer.proofs.Naming.{all_tokens, in_order}

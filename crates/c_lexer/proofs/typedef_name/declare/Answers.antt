@@ -1,4 +1,3 @@
-use Rattle.std.proofs.Common.{◌∙◌, sym}
 use Rattle.c_lexer.proofs.Naming.{words_inserted}
 use Rattle.c_lexer.proofs.typedef_name.declare.Goals as goal
 

@@ -1,5 +1,4 @@
-use Rattle.std.proofs.Common.{◌∙◌, ◌&&◌, Bool, ap, sym}
-use Rattle.c_lexer.specs.TypedefNames.{has_class, is_name}
+use Rattle.std.proofs.Common.{◌∙◌}
 use Rattle.c_lexer.proofs.Naming.{any_in}
 use Rattle.c_lexer.proofs.typedef_name.is_name.Goals as goal
 
