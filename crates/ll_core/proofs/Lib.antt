@@ -21,3 +21,4 @@ pub mod RowsFound
 pub mod Shifts
 pub mod Steps
 pub mod Verdicts
+pub mod Reducing
