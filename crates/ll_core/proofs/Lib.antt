@@ -22,3 +22,4 @@ pub mod Shifts
 pub mod Steps
 pub mod Verdicts
 pub mod Reducing
+pub mod Folding

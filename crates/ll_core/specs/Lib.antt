@@ -13,3 +13,4 @@ pub mod Stacks
 pub mod Tables
 pub mod Trees
 pub mod Postorder
+pub mod Folds
