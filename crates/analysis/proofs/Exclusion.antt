@@ -68,6 +68,7 @@ one_fault text a b = here (lexical_fault text)
     behind_tokens (inr f) (inr g) =
         let same : f.1.word ≡ g.1.word = same_place (words_in text) f.1.word g.1.word f.1.leaves g.1.leaves in
         f.1.is ∙ ap (λ (k : ℕ). record { code = 0; place = place_of text k; name = codes "not-built" }) same ∙ sym g.1.is
+
     here : (limit : Option Refusal) → IsFaultBehind limit text a → IsFaultBehind limit text b → a ≡ b
     here None f g = behind_tokens f g
     here (Some l) f g = f ∙ sym g

@@ -1,9 +1,8 @@
 -- A text has at most one fault of its syntax, and none where it has a derivation.
-use Rattle.std.proofs.Common.{◌≡◌, ◌≢◌, ◌∙◌, ◌⊎◌, inl, inr, ℕ, List, Some, slice_get, sym, ap, subst}
+use Rattle.std.proofs.Common.{◌≡◌, ◌≢◌, ◌∙◌, inl, inr, ℕ, List, Some, slice_get, sym, ap}
 use Rattle.misra_base.specs.declared.refusal.Refusal.{Refusal}
 use Rattle.c_lexer.specs.declared.token.Token.{Token}
 use Rattle.ll_core.specs.declared.production.Production.{Production}
-use Rattle.ll_core.specs.declared.parser.ParseStop.{ParseStop}
 use Rattle.ll_core.specs.declared.parser.ParseStop.TheVariants.{At, Deep, Memory}
 use Rattle.ll_core.specs.Answers.{IsDerivedWithin}
 use Rattle.ll_core.proofs.Verdicts.{one_stop, no_stop}

@@ -1,14 +1,13 @@
 -- The steps of a tree on a stack leave the values of the tree.
-use Rattle.std.proofs.Common.{◌≡◌, ◌≤◌, ◌+◌, ◌-◌, ℕ, List, [], ◌∷◌, ◌++◌, take, drop, length, reverse, Some, slice_get, refl, sym, ap, subst, ◌∙◌, append_assoc, append-nil, length-append, arith}
-use Rattle.std.proofs.lemmas.Grind.{common_steps}
+use Rattle.std.proofs.Common.{◌≡◌, ◌≤◌, ◌+◌, ℕ, List, [], ◌∷◌, ◌++◌, take, drop, length, reverse, Some, slice_get, refl, sym, ap, ◌∙◌, append_assoc, append-nil, length-append, arith}
 use Rattle.std.proofs.Math.Seq.{take-append_seam, drop-append_seam}
 use Rattle.std.proofs.lemmas.List.{reverse-append, reverse-reverse, length-reverse}
 use Rattle.ll_core.specs.declared.production.Production.{Production}
 use Rattle.ll_core.specs.declared.reductions.Event.{Event}
-use Rattle.ll_core.specs.declared.reductions.Event.TheVariants.{Shift, Reduce}
+use Rattle.ll_core.specs.declared.reductions.Event.TheVariants.{Reduce}
 use Rattle.ll_core.specs.Trees.{Forest, Empty, Leaf, Node, IsForest, leaves, right_of}
 use Rattle.ll_core.specs.Postorder.{postorder}
-use Rattle.ll_core.specs.Folds.{Folded, fold_forest, with_leaf, run_steps, size_in}
+use Rattle.ll_core.specs.Folds.{fold_forest, run_steps, size_in}
 
 turned : {A : Type 0} (vs : List A) (y : A) (stack : List A) → reverse vs ++ y ∷ stack ≡ reverse (y ∷ vs) ++ stack
 turned vs y stack = sym (ap (λ ws. ws ++ stack) (reverse-append (y ∷ []) vs) ∙ append_assoc (reverse vs) (y ∷ []) stack)

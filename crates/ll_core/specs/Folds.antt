@@ -1,5 +1,5 @@
 -- What is made of a derivation tree from its leaves up, and by its steps on a stack.
-use Rattle.std.specs.Prelude.{ℕ, List, [], ◌∷◌, ◌++◌, take, drop, length, reverse, Option, None, Some, slice_get}
+use Rattle.std.specs.Prelude.{ℕ, List, [], ◌∷◌, take, drop, length, reverse, Option, None, Some, slice_get}
 use Rattle.ll_core.specs.declared.production.Production.{Production}
 use Rattle.ll_core.specs.declared.reductions.Event.{Event}
 use Rattle.ll_core.specs.declared.reductions.Event.TheVariants.{Shift, Reduce}

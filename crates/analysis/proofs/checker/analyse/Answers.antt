@@ -1,8 +1,5 @@
-use Rattle.std.proofs.Common.{◌∙◌, ◌≡◌, ℕ, List, subst, ap}
+use Rattle.std.proofs.Common.{◌∙◌}
 use Rattle.std.proofs.lemmas.Result.{err_from_is_err_and}
-use Rattle.ll_core.specs.Answers.{IsDerivedWithin}
-use Rattle.c_grammar.specs.declared.tables.TheConstants.{PRODUCTIONS}
-use Rattle.c_grammar.specs.Syntax.{classes_of}
 use Rattle.analysis.proofs.Phases.{only_memory, not_built_first, parsed_of}
 use Rattle.analysis.proofs.Turns.{all_declared}
 use Rattle.analysis.proofs.checker.analyse.Goals as goal

@@ -1,10 +1,9 @@
-use Rattle.std.proofs.Common.{◌≡◌, ◌≤◌, ◌<◌, ◌+◌, true, false, [], ◌∷◌, ◌++◌, length, get_or, reverse, rules, ap, subst, sym, ◌∙◌, arith}
+use Rattle.std.proofs.Common.{◌≡◌, true, false, length, rules, ap, sym, ◌∙◌, arith}
 use Rattle.std.proofs.lemmas.Grind.{common_steps}
 use Rattle.std.proofs.lemmas.Option.{slice_get_within}
 use Rattle.ll_core.specs.declared.reductions.Pending.TheVariants.{Symbol, Close}
-use Rattle.ll_core.specs.Trees.{is_left, right_of}
-use Rattle.ll_core.specs.Postorder.{pending_of}
-use Rattle.ll_core.proofs.Reducing.{closes, shifts, expands, taken, popped, pushed_goes, pushed_size}
+use Rattle.ll_core.specs.Trees.{is_left}
+use Rattle.ll_core.proofs.Reducing.{closes, shifts, expands, taken, pushed_goes, pushed_size}
 use Rattle.ll_core.proofs.reductions.postorder.Goals as goal
 
 pub loop-pending-preserved-in-Continue-branch-2 : goal.loop-pending-preserved-in-Continue-branch-2
