@@ -3,6 +3,7 @@
 
 mod declaration;
 mod expression;
+mod making;
 mod statement;
 mod tree;
 
@@ -13,6 +14,7 @@ pub use expression::{
     BinaryOperator, Bound, Declarator, Enumerator, Expression, MemberDeclaration, Operation,
     Pointer, Postfix, Qualifier, Specifier, TypeName, UnaryOperator, Word,
 };
+pub use making::{binary, operation, sizeof_type};
 pub use statement::{
     AssignmentOperator, Block, Body, CaseLabel, Clause, ForStart, If, Item, Leave, Otherwise,
     Simple, Statement, Step,
