@@ -12,6 +12,8 @@ use Rattle.c_program.specs.declared.expression.Postfix.{Postfix, fold-Postfix}
 use Rattle.c_program.specs.declared.expression.Specifier.{Specifier, fold-Specifier}
 use Rattle.c_program.specs.declared.expression.Operation.{Operation, fold-Operation}
 use Rattle.c_program.specs.declared.expression.TypeName.{TypeName, fold-TypeName}
+use Rattle.c_program.specs.declared.expression.Declarator.{Declarator, fold-Declarator}
+use Rattle.c_program.specs.declared.expression.Bound.{Bound, fold-Bound}
 use Rattle.c_program.specs.Expressions
 
 -- one of a list of operations, of members, of enumerators
@@ -135,3 +137,15 @@ operation_view = fold-Operation _ _ _ _ _ _ _ _ _ expression_level postfix_level
 
 abbrev pub type_name_view : TypeName → Expressions.TypeNameData
 type_name_view = fold-TypeName _ _ _ _ _ _ _ _ _ expression_level postfix_level specifier_level bound_level declarator_level enumerator_level member_level operation_level type_name_level
+
+abbrev pub specifier_view : Specifier → Expressions.SpecifierData
+specifier_view = fold-Specifier _ _ _ _ _ _ _ _ _ expression_level postfix_level specifier_level bound_level declarator_level enumerator_level member_level operation_level type_name_level
+
+abbrev pub declarator_view : Declarator → Expressions.DeclaratorData
+declarator_view = fold-Declarator _ _ _ _ _ _ _ _ _ expression_level postfix_level specifier_level bound_level declarator_level enumerator_level member_level operation_level type_name_level
+
+abbrev pub bound_view : Bound → Expressions.BoundData
+bound_view = fold-Bound _ _ _ _ _ _ _ _ _ expression_level postfix_level specifier_level bound_level declarator_level enumerator_level member_level operation_level type_name_level
+
+abbrev pub specifiers_view : List Specifier → Expressions.Specifiers
+specifiers_view specifiers = specifiers_of (map specifier_view specifiers)

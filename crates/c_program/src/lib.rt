@@ -14,7 +14,7 @@ pub use expression::{
     BinaryOperator, Bound, Declarator, Enumerator, Expression, MemberDeclaration, Operation,
     Pointer, Postfix, Qualifier, Specifier, TypeName, UnaryOperator, Word,
 };
-pub use making::{binary, operation, sizeof_type};
+pub use making::{binary, operation, sizeof_type, translation_unit, while_statement};
 pub use statement::{
     AssignmentOperator, Block, Body, CaseLabel, Clause, ForStart, If, Item, Leave, Otherwise,
     Simple, Statement, Step,
