@@ -4,6 +4,10 @@
 # line. Wants gcc and a program that ./misra_desk has built.
 top=$(cd "$(dirname "$0")/.." && pwd) || exit 1
 program=$top/crates/misra_desk/out/misra_desk
+if [ ! -x "$program" ]; then
+    echo "there is no program yet: ./misra_desk builds it" >&2
+    exit 1
+fi
 work=$(mktemp -d) || exit 1
 trap 'rm -rf "$work"' EXIT
 gcc -shared -fPIC -O1 -o "$work/failing.so" "$top/tools/failing_malloc.c" || exit 1

@@ -8,3 +8,4 @@ pub mod State
 pub mod Step
 pub mod Runs
 pub mod Samples
+pub mod Laws

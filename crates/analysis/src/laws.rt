@@ -1,11 +1,10 @@
 //! Laws of the definitions, each the contract of a function that does nothing.
 
-ghost use Rattle.std.specs.Prelude.{◌≡◌, true, List, ℕ};
-ghost use Rattle.misra_base.specs.declared.refusal.Refusal.{Refusal};
+ghost use Rattle.std.specs.Prelude.{◌≡◌, true, List};
 ghost use Rattle.misra_base.specs.declared.guideline.Guideline.TheVariants.{R22_17};
 ghost use Rattle.misra_base.specs.Reports.{IsSilent};
-ghost use Rattle.analysis.specs.Form.{Program, IsProgramOf};
-ghost use Rattle.analysis.specs.Faults.{IsSupportedAs, IsFirstFault};
+ghost use Rattle.analysis.specs.Form.{Program};
+ghost use Rattle.analysis.specs.Laws.{ProgramIsOne, SupportedHasNoFault, FirstFaultIsOne};
 ghost use Rattle.analysis.specs.Findings.{findings_of};
 ghost use Rattle.analysis.specs.Step.{Choice};
 ghost use Rattle.analysis.specs.Runs.{IsRun, IsGoodRun, Breaks, state_after};
@@ -19,17 +18,17 @@ pub fn silence_is_sound()
 
 /// A text has one program.
 pub fn program_is_one()
-    ensures { (text : List ℕ) (p q : Program) → IsProgramOf text p → IsProgramOf text q → p ≡ q }
+    ensures { ProgramIsOne }
 {}
 
 /// A supported text has no fault.
 pub fn supported_has_no_fault()
-    ensures { (text : List ℕ) (p : Program) (refusal : Refusal) → IsSupportedAs text p → ¬ (IsFirstFault text refusal) }
+    ensures { SupportedHasNoFault }
 {}
 
 /// The first fault of a text is one.
 pub fn first_fault_is_one()
-    ensures { (text : List ℕ) (a b : Refusal) → IsFirstFault text a → IsFirstFault text b → a ≡ b }
+    ensures { FirstFaultIsOne }
 {}
 
 /// The definitions of runs are not empty: a program that unlocks what it does not own has a run whose

@@ -118,6 +118,11 @@ fn answer_text(
     }
 }
 
+#[test]
+fn statements_have_their_grammar(rt: HostRuntime) {
+    assert!(rt; crate::statements(rt.alloc()).is_ok());
+}
+
 /// What the grammar answers for the list with this number.
 fn short_answer<const P: usize, const S: usize>(
     rt: &impl Abort,

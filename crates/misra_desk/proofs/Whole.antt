@@ -4,19 +4,11 @@ use Rattle.std.specs.declared.option.Option.{Option}
 use Rattle.std.specs.Io.KnownBytes.{Appends}
 use Rattle.misra_base.specs.Lines.{report_bytes, refusal_line}
 use Rattle.misra_base.specs.declared.refusal.Refusal.{Refusal}
-use Rattle.analysis.specs.Form.{Program, IsProgramOf}
+use Rattle.analysis.specs.Form.{Program}
 use Rattle.analysis.specs.Faults.{IsSupportedAs, IsFirstFault}
+use Rattle.analysis.specs.Laws.{ProgramIsOne, SupportedHasNoFault, FirstFaultIsOne}
 use Rattle.analysis.specs.Findings.{judged, findings_of}
 use Rattle.misra_desk.specs.Answers.{status_of, WritesAnswer}
-
-abbrev pub ProgramIsOne : Type 0
-ProgramIsOne = (text : List ℕ) (p q : Program) → IsProgramOf text p → IsProgramOf text q → p ≡ q
-
-abbrev pub SupportedHasNoFault : Type 0
-SupportedHasNoFault = (text : List ℕ) (p : Program) (fault : Refusal) → IsSupportedAs text p → ¬ (IsFirstFault text fault)
-
-abbrev pub FirstFaultIsOne : Type 0
-FirstFaultIsOne = (text : List ℕ) (a b : Refusal) → IsFirstFault text a → IsFirstFault text b → a ≡ b
 
 -- the whole report was written
 abbrev pub WritesReport : ℕ → Option (List ℕ) → Option (List ℕ) → Program → Type 0
