@@ -150,4 +150,5 @@ def main():
             print(f"{name} = {' ∷ '.join(f'token_member {m[0]} {m[1]} {n}' for m, n in members)} ∷ []")
 
 
-main()
+if __name__ == "__main__":
+    main()

@@ -7,7 +7,7 @@ use Rattle.std.proofs.lemmas.Grind.{flat_map-append}
 use Rattle.std.specs.Str.{bytes_eq}
 use Rattle.std.specs.Cmp.Lexicographic.{same_text}
 use Rattle.c_lexer.specs.Identifiers.{is_reserved, is_identifier}
-use Rattle.c_lexer.specs.WordClasses.{class_rows, word_rows}
+use Rattle.c_lexer.specs.TokenClasses.{class_rows, number_rows}
 use Rattle.misra_base.specs.declared.place.Place.{Place}
 use Rattle.analysis.specs.declared.program.Operation.{Operation}
 use Rattle.analysis.specs.declared.program.Operation.TheVariants.{Init, Lock, Unlock}
@@ -128,7 +128,7 @@ absurd_bool e = cc
 
 -- no identifier is a called name
 calls_reserved : (operation : Operation) → is_identifier (called_name operation) ≡ false
-unfolding is_reserved class_rows word_rows
+unfolding is_reserved class_rows number_rows
 calls_reserved Init = refl
 calls_reserved Lock = refl
 calls_reserved Unlock = refl

@@ -10,7 +10,7 @@ use Rattle.std.specs.Prelude.{nat_eq}
 use Rattle.c_lexer.specs.Bytes.{is_word_byte}
 use Rattle.c_lexer.specs.Positions.{first_place}
 use Rattle.c_lexer.specs.Identifiers.{is_reserved, is_identifier}
-use Rattle.c_lexer.specs.WordClasses.{class_rows, word_rows}
+use Rattle.c_lexer.specs.TokenClasses.{class_rows, number_rows}
 use Rattle.analysis.specs.declared.program.Operation.TheVariants.{Lock}
 use Rattle.analysis.specs.declared.program.Call.{Call}
 use Rattle.analysis.specs.declared.position.Position.{Position}
@@ -27,7 +27,7 @@ abbrev zs : ℕ → List ℕ
 zs n = 122 ∷ replicate n 122
 
 zs_identifier : (n : ℕ) → is_identifier (zs n) ≡ true
-unfolding is_reserved class_rows word_rows
+unfolding is_reserved class_rows number_rows
 zs_identifier n =
     let all : prefix_len is_word_byte (replicate n 122) ≡ n = prefix_len-replicate is_word_byte n 122 refl in
     let long : length {A = ℕ} (replicate n 122) ≡ n = length-replicate n 122 in

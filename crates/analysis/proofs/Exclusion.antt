@@ -3,7 +3,7 @@ use Rattle.std.proofs.Common.{◌≡◌, ◌≤◌, ◌<◌, ◌+◌, ◌⊎◌,
 use Rattle.std.proofs.lemmas.Grind.{common_steps}
 use Rattle.std.proofs.lemmas.List.{take-append-drop}
 use Rattle.misra_base.specs.declared.refusal.Refusal.{Refusal}
-use Rattle.c_lexer.specs.Limits.{limit_fault}
+use Rattle.c_lexer.specs.Limits.{lexical_fault}
 use Rattle.analysis.specs.Form.{Program, words_of, words_in, IsViable, LeavesFormAt}
 use Rattle.analysis.specs.Faults.{IsSupportedAs, IsFirstFault, IsFaultBehind, place_of}
 
@@ -48,14 +48,14 @@ same_place words j k a b =
     ]
 
 pub no_fault : (text : List ℕ) (p : Program) (refusal : Refusal) → IsSupportedAs text p → ¬ (IsFirstFault text refusal)
-no_fault text p refusal s fault = here (limit_fault text) s.limits fault
+no_fault text p refusal s fault = here (lexical_fault text) s.lexed fault
   where
     here : (limit : Option Refusal) → limit ≡ None → IsFaultBehind limit text refusal → ⊥
     here None e f = nowhere text p f.word s f.leaves
     here (Some l) e f = cc
 
 pub one_fault : (text : List ℕ) (a b : Refusal) → IsFirstFault text a → IsFirstFault text b → a ≡ b
-one_fault text a b = here (limit_fault text)
+one_fault text a b = here (lexical_fault text)
   where
     here : (limit : Option Refusal) → IsFaultBehind limit text a → IsFaultBehind limit text b → a ≡ b
     here None f g =

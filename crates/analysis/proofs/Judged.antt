@@ -4,7 +4,8 @@ use Rattle.std.proofs.lemmas.List.{length-map, take-map, take_more}
 use Rattle.std.proofs.Math.Seq.{take-length}
 use Rattle.misra_base.specs.declared.place.Place.{Place}
 use Rattle.c_lexer.specs.declared.token.Token.{Token}
-use Rattle.c_lexer.specs.Tokens.{tokens_of, token_text}
+use Rattle.c_lexer.specs.Slices.{token_text}
+use Rattle.c_lexer.specs.Tokens.{tokens_of}
 use Rattle.analysis.specs.declared.program.Call.{Call}
 use Rattle.analysis.specs.declared.position.Position.{Position}
 use Rattle.analysis.specs.declared.position.Position.TheVariants.{End}

@@ -7,7 +7,8 @@ use Rattle.misra_base.specs.declared.refusal.CheckStop.{CheckStop}
 use Rattle.misra_base.specs.declared.refusal.CheckStop.TheVariants.{Refused, Memory}
 use Rattle.c_lexer.specs.declared.token.Token.{Token}
 use Rattle.c_lexer.specs.Positions.{end_place}
-use Rattle.c_lexer.specs.Tokens.{tokens_of, token_text}
+use Rattle.c_lexer.specs.Slices.{token_text}
+use Rattle.c_lexer.specs.Tokens.{tokens_of}
 use Rattle.analysis.specs.declared.position.Position.TheVariants.{End}
 use Rattle.analysis.specs.Form.{Program, IsProgramOf}
 use Rattle.analysis.specs.Reading.{Reading, opening_reading, step, goes}

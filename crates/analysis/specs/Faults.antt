@@ -7,7 +7,7 @@ use Rattle.misra_base.specs.declared.refusal.CheckStop.TheVariants.{Refused, Mem
 use Rattle.c_lexer.specs.declared.token.Token.{Token}
 use Rattle.c_lexer.specs.Positions.{end_place}
 use Rattle.c_lexer.specs.Tokens.{tokens_of}
-use Rattle.c_lexer.specs.Limits.{limit_fault}
+use Rattle.c_lexer.specs.Limits.{lexical_fault}
 use Rattle.analysis.specs.Form.{Program, words_in, IsProgramOf, LeavesFormAt}
 
 abbrev pub place_or : Place → Option Token → Place
@@ -18,24 +18,24 @@ place_or end (Some token) = token.place
 abbrev pub place_of : List ℕ → ℕ → Place
 place_of text k = place_or (end_place text) (slice_get (tokens_of text) k)
 
--- the refusal U0 of a text that keeps the limits and is not of the form: the place is where it leaves the form
+-- the refusal U0 of a text that has tokens and is not of the form: the place is where it leaves the form
 pub record IsNotBuilt (text : List ℕ) (refusal : Refusal) : Type 0 where
   pub word : ℕ
   pub leaves : LeavesFormAt (words_in text) word
   pub is : refusal ≡ record { code = 0; place = place_of text word; name = codes "not-built" }
 
--- the limits come first
+-- a fault of the text's size or tokens comes first
 abbrev pub IsFaultBehind : Option Refusal → List ℕ → Refusal → Type 0
-IsFaultBehind (Some limit) text refusal = refusal ≡ limit
+IsFaultBehind (Some fault) text refusal = refusal ≡ fault
 IsFaultBehind None text refusal = IsNotBuilt text refusal
 
 -- the first fault of a text
 abbrev pub IsFirstFault : List ℕ → Refusal → Type 0
-IsFirstFault text refusal = IsFaultBehind (limit_fault text) text refusal
+IsFirstFault text refusal = IsFaultBehind (lexical_fault text) text refusal
 
--- the text keeps the limits, and is of the form with this program
+-- the text is one of tokens, and is of the form with this program
 pub record IsSupportedAs (text : List ℕ) (p : Program) : Type 0 where
-  pub limits : limit_fault text ≡ None
+  pub lexed : lexical_fault text ≡ None
   pub program : IsProgramOf text p
 
 -- how a phase stops at a text, unless memory ran out

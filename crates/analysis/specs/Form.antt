@@ -7,7 +7,8 @@ use Rattle.std.specs.List.{list_any}
 use Rattle.std.specs.Str.{bytes_eq}
 use Rattle.misra_base.specs.declared.place.Place.{Place}
 use Rattle.c_lexer.specs.declared.token.Token.{Token}
-use Rattle.c_lexer.specs.Tokens.{tokens_of, token_text}
+use Rattle.c_lexer.specs.Slices.{token_text}
+use Rattle.c_lexer.specs.Tokens.{tokens_of}
 use Rattle.c_lexer.specs.Identifiers.{is_identifier}
 use Rattle.analysis.specs.declared.program.Operation.{Operation}
 use Rattle.analysis.specs.declared.program.Operation.TheVariants.{Init, Lock, Unlock}

@@ -3,3 +3,5 @@ mod Digits
 mod Longest
 mod Order
 mod Classes
+mod Naming
+mod ClassNumbers

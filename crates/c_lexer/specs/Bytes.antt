@@ -1,9 +1,17 @@
 -- Classes of bytes.
-use Rattle.std.specs.Prelude.{ℕ, Bool, ◌||◌, ◌&&◌, ◌==◌, nat_le}
+use Rattle.std.specs.Prelude.{ℕ, Bool, not, ◌||◌, ◌&&◌, ◌==◌, nat_le}
 
--- space, tab and LF
+-- space, tab, LF, CR, vertical tab and form feed
 abbrev pub is_blank : ℕ → Bool
-is_blank b = b == 32 || b == 9 || b == 10
+is_blank b = b == 32 || b == 9 || b == 10 || b == 13 || b == 11 || b == 12
+
+-- space and tab
+abbrev pub is_gap : ℕ → Bool
+is_gap b = b == 32 || b == 9
+
+-- all but LF
+abbrev pub is_in_line : ℕ → Bool
+is_in_line b = not (b == 10)
 
 -- a letter or `_`
 abbrev pub is_letter : ℕ → Bool

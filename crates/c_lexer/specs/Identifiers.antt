@@ -4,11 +4,11 @@ use Rattle.std.specs.List.{prefix_len}
 use Rattle.std.specs.Str.{bytes_eq}
 use Rattle.misra_base.specs.Keys.{number_in}
 use Rattle.c_lexer.specs.Bytes.{is_letter, is_word_byte}
-use Rattle.c_lexer.specs.WordClasses.{word_rows}
+use Rattle.c_lexer.specs.TokenClasses.{number_rows}
 
 -- a word that C or the library keeps for itself
 unfoldable pub is_reserved : List ℕ → Bool
-is_reserved word = is_some (number_in word_rows word)
+is_reserved word = is_some (number_in number_rows word)
 
 -- a letter or `_`, then letters, digits and `_`
 abbrev pub is_word : List ℕ → Bool

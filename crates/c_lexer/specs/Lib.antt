@@ -6,7 +6,10 @@ pub mod Slices
 pub mod Tokens
 pub mod Limits
 pub mod Scanning
+pub mod TypedefNames
 pub mod Identifiers
-pub mod WordClasses
+pub mod Lines
+pub mod Pieces
+pub mod TokenClasses
 pub mod Integers
 pub mod Literals

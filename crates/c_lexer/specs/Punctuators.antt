@@ -1,8 +1,13 @@
--- Punctuators of more than one byte (C11 6.4.6).
+-- Punctuators (C11 6.4.6).
 use Rattle.std.specs.Prelude.{ℕ, Bool, List, codes, nat_eq, if◌then◌else◌}
 use Rattle.std.specs.List.{list_any, starts_with}
 use Rattle.misra_base.specs.Keys.{words_of}
 
+-- whether the byte is a punctuator, or begins one
+abbrev pub is_punctuator : ℕ → Bool
+is_punctuator b = list_any (λ p. nat_eq p b) (codes "[](){}.&*+-~!/%<>^|?:;=,")
+
+-- those of three and of two bytes
 unfoldable pub threes : List (List ℕ)
 threes = words_of (codes "<<= >>= ...")
 

@@ -2,7 +2,7 @@ ghost use Rattle.std.specs.Prelude.{◌≡◌};
 ghost use Rattle.c_lexer.specs.Identifiers.{is_reserved, is_word, is_identifier};
 
 use crate::bytes::{is_letter, word_rest};
-use crate::word_class::word_table;
+use crate::token_class::class_table;
 
 /// Whether an object may have the word as its name: a letter or `_`, then letters, digits and `_`;
 /// no keyword, type, constant or call of the library, nor another word that C or this subset
@@ -13,7 +13,7 @@ pub fn is_identifier(word: &[u8]) -> bool
     is_word(word) && !is_reserved(word) && word != b"main".as_slice()
 }
 
-fn is_word(word: &[u8]) -> bool
+pub(crate) fn is_word(word: &[u8]) -> bool
     ensures { result ≡ is_word word.now }
 {
     match word {
@@ -25,5 +25,5 @@ fn is_word(word: &[u8]) -> bool
 fn is_reserved(word: &[u8]) -> bool
     ensures { result ≡ is_reserved word.now }
 {
-    word_table().find_bytes(word).is_some()
+    class_table().find_bytes(word).is_some()
 }

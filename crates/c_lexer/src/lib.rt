@@ -2,24 +2,31 @@
 #![tactic(auto)]
 
 mod bytes;
+#[cfg(test)]
+mod class_rows;
+#[cfg(test)]
+mod generated_rows;
 mod identifiers;
 mod integer;
+mod line;
 mod literal;
 #[cfg(test)]
 mod literal_table;
 mod number;
+mod piece;
 mod position;
 mod punctuator;
 mod scanner;
 mod token;
+mod token_class;
 #[cfg(test)]
 mod token_table;
-mod word_class;
+mod typedef_name;
 
 pub use identifiers::is_identifier;
 pub use integer::{IntegerLiteral, IntegerType, integer_literal};
 pub use literal::{NumberLiteral, character_literal, number_literal};
 pub use position::{FIRST_PLACE, place_after};
 pub use scanner::{MAX_BYTES, MAX_TOKENS, tokens};
-pub use token::{Token, TokenClass};
-pub use word_class::{WordClass, class_of_word, word_table};
+pub use token::Token;
+pub use token_class::TokenClass;

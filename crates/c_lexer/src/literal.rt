@@ -22,7 +22,7 @@ fn is_exponent(hexadecimal: bool, byte: u8) -> bool
     }
 }
 
-fn is_floating(text: &[u8]) -> bool
+pub(crate) fn is_floating(text: &[u8]) -> bool
     ensures { result ≡ is_floating text.now }
 {
     let hexadecimal = begins_hexadecimal(text);

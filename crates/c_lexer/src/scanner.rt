@@ -1,15 +1,19 @@
-ghost use Rattle.std.specs.Prelude.{◌≡◌, ◌≤◌, ◌<◌, ◌+◌, ◌^◌, ℕ, length, All, MatchResult, IfOk, IfErr};
-ghost use Rattle.c_lexer.specs.Tokens.{header_length, token_length, token_class, tokens_of};
-ghost use Rattle.c_lexer.specs.Scanning.{GoesOn, MeetsLimit};
-ghost use Rattle.c_lexer.specs.Slices.{AreInOrder, IsWithin};
-ghost use Rattle.c_lexer.specs.Limits.{StopsBy, limit_fault};
+ghost use Rattle.std.specs.Prelude.{◌≡◌, ◌≤◌, ◌<◌, ◌+◌, ◌^◌, ℕ, zero, take, length, All, MatchResult, IfOk, IfErr};
+ghost use Rattle.misra_base.specs.Tables.{rows};
+ghost use Rattle.c_lexer.specs.TokenClasses.{number_rows, class_number};
+ghost use Rattle.c_lexer.specs.Pieces.{fault_code, fault_name};
+ghost use Rattle.c_lexer.specs.Tokens.{class_of_lexeme, lexed_from, lexed_of, tokens_of};
+ghost use Rattle.c_lexer.specs.Scanning.{GoesOn, IsWhole, behind};
+ghost use Rattle.c_lexer.specs.Slices.{AreInOrder, HasClass, IsWithin};
+ghost use Rattle.c_lexer.specs.Limits.{StopsBy, fault_of, lexical_fault};
 
-use crate::bytes::{is_blank, is_letter, word_rest};
-use crate::number::{begins_hexadecimal, begins_number, number_rest};
+use crate::literal::is_floating;
+use crate::piece::{Fault, LexemeKind, Piece, fault_code, fault_name, fresh_behind, piece_at};
 use crate::position::{FIRST_PLACE, place_after};
-use crate::punctuator::punctuator_length;
-use crate::token::{Token, TokenClass};
-use misra_base::{CheckStop, Name, Place, Refusal};
+use crate::token::Token;
+use crate::token_class::{TokenClass, class_of, class_table};
+use crate::typedef_name::with_typedef_names;
+use misra_base::{CheckStop, KeyTable, Name, Place, Refusal};
 use std::alloc::{AllocError, Global};
 
 /// The most bytes that a text may have.
@@ -18,64 +22,92 @@ pub const MAX_BYTES: usize = 262_144;
 /// The most tokens that a text may have.
 pub const MAX_TOKENS: usize = 60_000;
 
-/// The include line that a text may begin with.
-const INCLUDE: &[u8] = b"#include <threads.h>";
-
 /// The tokens of a text, in order. A text of more than `MAX_BYTES` bytes is refused as U5 at its
-/// first byte, and one with more than `MAX_TOKENS` tokens at the first token beyond them.
+/// first byte. Any other text is refused at its first place that begins neither a token nor what
+/// is passed over: U1 for a foreign byte, U2 for a comment or a literal that is not closed, U3 for a
+/// `#` line, U4 for a literal outside the forms or range; or as U5 at the first token beyond
+/// `MAX_TOKENS`.
 pub fn tokens(alloc: Global, text: &[u8]) -> Result<Vec<Token>, CheckStop>
-    ensures exact { MatchResult result (λ v. (limit_fault text.now ≡ None) × (v.items ≡ tokens_of text.now)) (StopsBy (limit_fault text.now)) }
+    ensures exact { MatchResult result (λ v. (lexical_fault text.now ≡ None) × (v.items ≡ tokens_of text.now)) (StopsBy (lexical_fault text.now)) }
     ensures ordered { IfOk result (λ v. AreInOrder 0 (length text.now) v.items) }
     ensures within { IfOk result (λ v. All (IsWithin (length text.now)) v.items) }
+    ensures classes { IfOk result (λ v. All HasClass v.items) }
 {
     if text.len() > MAX_BYTES {
-        return Err(too_many(alloc, FIRST_PLACE, b"bytes"));
+        return Err(refused(alloc, 5, FIRST_PLACE, b"bytes"));
     }
+    let cut = scan(alloc, text)?;
+    Ok(with_typedef_names(alloc, text, &cut)?)
+}
+
+/// The tokens of a text, where a typedef name still has the class of an identifier.
+fn scan(alloc: Global, text: &[u8]) -> Result<Vec<Token>, CheckStop>
+    requires { length text.now ≤ 262144 }
+    ensures exact { MatchResult result (λ v. IsWhole text.now v.items) (StopsBy (lexical_fault text.now)) }
+    ensures ordered { IfOk result (λ v. AreInOrder 0 (length text.now) v.items) }
+    ensures few { IfOk result (λ v. length v.items ≤ 60000) }
+{
+    let table = class_table();
     let mut tokens = Vec::new(alloc);
-    let mut at = header_length(text);
-    let mut place = place_after(FIRST_PLACE, &text[..at]);
+    let mut at = 0;
+    let mut fresh = true;
+    let mut place = FIRST_PLACE;
     while at < text.len() {
         let rest = &text[at..];
-        let length = scan_next(alloc, &mut tokens, rest, at, place)?;
+        let length = scan_next(alloc, &table, &mut tokens, fresh, rest, at, place)?;
+        fresh = fresh_behind(fresh, rest[0]);
         place = place_after(place, &rest[..length]);
         at += length;
     }
     Ok(tokens)
 }
 
-/// Goes over a blank or a token at the front of what is left, and says how many bytes that takes.
-/// Where the list is full, a token there is refused.
+/// Goes over the piece at the front of what is left, and says how many bytes it has.
 fn scan_next(
     alloc: Global,
+    table: &KeyTable<219>,
     tokens: &mut Vec<Token>,
+    fresh: bool,
     rest: &[u8],
     at: usize,
     place: Place,
 ) -> Result<usize, CheckStop>
+    requires table { rows table.now ≡ number_rows }
     requires some { 0 < length rest.now }
     requires offset { at + length rest.now ≤ 262144 }
     requires few { length tokens.old.items ≤ 60000 }
     ensures few { length tokens.new.items ≤ 60000 }
-    ensures ok { IfOk result (λ n. GoesOn tokens.old.items tokens.new.items at n place rest.now) }
-    ensures full { IfErr result (λ e. MeetsLimit tokens.old.items at place rest.now e) }
+    ensures ok { IfOk result (λ n. GoesOn tokens.old.items tokens.new.items fresh at n place rest.now) }
+    ensures stops { IfErr result (StopsBy (fault_of (behind tokens.old.items (lexed_from zero fresh at place rest.now)))) }
 {
-    if is_blank(rest[0]) {
-        return Ok(1);
+    match piece_at(fresh, rest) {
+        Piece::Passed(size) => Ok(size),
+        Piece::Token(kind, size) => {
+            if tokens.len() >= MAX_TOKENS {
+                return Err(refused(alloc, 5, place, b"tokens"));
+            }
+            tokens.push(token(table, kind, &rest[..size], at, place))?;
+            Ok(size)
+        }
+        Piece::Faulty(fault) => Err(faulty(alloc, fault, place, rest)),
     }
-    let length = token_length(rest);
-    if tokens.len() >= MAX_TOKENS {
-        return Err(too_many(alloc, place, b"tokens"));
-    }
-    tokens.push(token(rest, at, length, place))?;
-    Ok(length)
 }
 
-fn too_many(alloc: Global, place: Place, what: &[u8]) -> CheckStop
-    ensures { StopsBy (Some (record { code = 5; place = place; name = what.now })) result }
+fn refused(alloc: Global, code: u8, place: Place, what: &[u8]) -> CheckStop
+    ensures { StopsBy (Some (record { code = code; place = place; name = what.now })) result }
 {
     match Name::from_bytes(alloc, what) {
+        Ok(name) => CheckStop::Refused(Refusal { code, place, name }),
+        Err(_) => CheckStop::Memory,
+    }
+}
+
+fn faulty(alloc: Global, fault: Fault, place: Place, text: &[u8]) -> CheckStop
+    ensures { StopsBy (Some (record { code = fault_code fault; place = place; name = fault_name fault text.now })) result }
+{
+    match fault_name(alloc, fault, text) {
         Ok(name) => CheckStop::Refused(Refusal {
-            code: 5,
+            code: fault_code(fault),
             place,
             name,
         }),
@@ -83,55 +115,29 @@ fn too_many(alloc: Global, place: Place, what: &[u8]) -> CheckStop
     }
 }
 
-/// How many bytes the include line takes at the start of the text, 0 without one.
-fn header_length(text: &[u8]) -> usize
-    ensures value { result ≡ header_length text.now }
-    ensures bound { result ≤ length text.now }
+/// The class of a lexeme, where a name is an identifier.
+fn class_of_lexeme(table: &KeyTable<219>, kind: LexemeKind, text: &[u8]) -> u16
+    requires { rows table.now ≡ number_rows }
+    ensures { result ≡ class_number (class_of_lexeme kind text.now) }
 {
-    match text.strip_prefix(INCLUDE) {
-        Some([] | [b'\n', ..]) => INCLUDE.len(),
-        _ => 0,
+    match kind {
+        LexemeKind::Word | LexemeKind::Punctuator => class_of(table, text),
+        LexemeKind::Number if is_floating(text) => TokenClass::NamedConstruct as u16,
+        LexemeKind::Number | LexemeKind::Character => TokenClass::Constant as u16,
+        LexemeKind::String => TokenClass::NamedConstruct as u16,
     }
 }
 
-/// How many bytes the longest token has that the text begins with.
-fn token_length(rest: &[u8]) -> usize
-    requires { 0 < length rest.now }
-    ensures value { result ≡ token_length rest.now }
-    ensures some { 0 < result }
-    ensures bound { result ≤ length rest.now }
-{
-    match rest {
-        [] => 0,
-        [first, more @ ..] => {
-            if is_letter(*first) {
-                1 + word_rest(more)
-            } else if begins_number(rest) {
-                1 + number_rest(begins_hexadecimal(rest), *first, more)
-            } else {
-                punctuator_length(rest)
-            }
-        }
-    }
-}
-
-fn token(rest: &[u8], start: usize, size: usize, place: Place) -> Token
-    requires some { 0 < length rest.now }
+fn token(table: &KeyTable<219>, kind: LexemeKind, text: &[u8], start: usize, place: Place) -> Token
+    requires table { rows table.now ≡ number_rows }
     requires start { start < 2 ^ 32 }
-    requires size { size < 2 ^ 32 }
-    ensures { result ≡ record { class = token_class rest.now; start = start; length = size; place = place } }
+    requires size { length text.now < 2 ^ 32 }
+    ensures { result ≡ record { class = class_number (class_of_lexeme kind text.now); start = start; length = length text.now; place = place } }
 {
-    let class = if is_letter(rest[0]) {
-        TokenClass::Word
-    } else if begins_number(rest) {
-        TokenClass::Number
-    } else {
-        TokenClass::Other
-    };
     Token {
-        class: class as u16,
+        class: class_of_lexeme(table, kind, text),
         start: start as u32,
-        length: size as u32,
+        length: text.len() as u32,
         place,
     }
 }

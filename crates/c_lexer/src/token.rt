@@ -2,17 +2,6 @@ ghost use Rattle.std.specs.Prelude.{◌≡◌, ◌≤◌, ◌+◌, length};
 
 use misra_base::Place;
 
-/// What kind of token it is.
-#[derive(Clone, Copy, Debug, PartialEq, Eq)]
-pub enum TokenClass {
-    /// A letter or `_`, then letters, digits and `_`.
-    Word,
-    /// A digit, or a point and a digit, and what goes on a number.
-    Number,
-    /// A punctuator, or a byte that begins no token.
-    Other,
-}
-
 /// A token: its bytes are the slice of the text from `start` on.
 #[derive(Clone, Copy, Debug, PartialEq, Eq)]
 pub struct Token {
@@ -27,7 +16,7 @@ pub struct Token {
 }
 
 impl Token {
-    ghost use Rattle.c_lexer.specs.Tokens.{token_text};
+    ghost use Rattle.c_lexer.specs.Slices.{token_text};
 
     /// The bytes of the token in its text.
     pub fn text<'a>(&self, text: &'a [u8]) -> &'a [u8]

@@ -142,14 +142,18 @@ fn a_text_is_refused_where_it_leaves_the_form(rt: HostRuntime) -> Result<(), Fai
         ("", "refused U0 1:1 not-built\n"),
         ("#include <threads.h>", "refused U0 1:21 not-built\n"),
         (
-            "#include <threads.h> \nint main(void) { return 0; }",
-            "refused U0 1:1 not-built\n",
+            "#include <threads.h>\n#include <stdint.h>\n",
+            "refused U0 3:1 not-built\n",
         ),
+        ("static mtx_t $;\n", "refused U1 1:14 byte-24\n"),
+        ("int $x;", "refused U1 1:5 byte-24\n"),
+        ("/* x", "refused U2 1:1 comment\n"),
+        ("#define N 4", "refused U3 1:1 define\n"),
+        ("static int x = 09;", "refused U4 1:16 literal\n"),
         (
-            "#include <threads.h>\n#include <threads.h>\n",
-            "refused U0 2:1 not-built\n",
+            "int main(void) { return 00; } $",
+            "refused U1 1:31 byte-24\n",
         ),
-        ("static mtx_t $;\n", "refused U0 1:14 not-built\n"),
         ("static mtx_t int;\n", "refused U0 1:14 not-built\n"),
         ("static mtx_t mtx_lock;\n", "refused U0 1:14 not-built\n"),
         ("static mtx_t main;\n", "refused U0 1:14 not-built\n"),
@@ -176,6 +180,8 @@ fn a_text_is_refused_where_it_leaves_the_form(rt: HostRuntime) -> Result<(), Fai
     for text in [
         "int main(void) { return 0; } \n ",
         "int\tmain ( void ){return 0;}",
+        "#include <threads.h> \nint main(void) { return 0; }",
+        "/* $ */ int main(void) // 09\n# 12 \"x\"\n{ return\x0c\r\n0; }",
     ] {
         show(&rt, alloc, checked(text, CLEAN, 0))?;
     }

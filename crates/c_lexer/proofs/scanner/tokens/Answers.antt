@@ -1,51 +1,31 @@
-use Rattle.std.proofs.Common.{◌≤◌, length, arith}
-use Rattle.std.proofs.lemmas.Grind.{common_steps}
-use Rattle.std.proofs.lemmas.Result.{err_from_is_err_and}
-use Rattle.c_lexer.proofs.Cutting.{at_start, still_all, too_many_left, no_fault, at_end}
-use Rattle.c_lexer.proofs.Order.{tokens_ordered, all_within, header_within}
+use Rattle.std.proofs.Common.{◌∙◌, List, length, ap, arith}
+use Rattle.c_lexer.specs.declared.token.Token.{Token}
+use Rattle.c_lexer.specs.TypedefNames.{with_typedef_names}
+use Rattle.c_lexer.proofs.Cutting.{no_fault}
+use Rattle.c_lexer.proofs.Naming.{all_tokens, in_order}
+use Rattle.c_lexer.proofs.Order.{all_within, all_classed}
 use Rattle.c_lexer.proofs.scanner.tokens.Goals as goal
 
-pub loop-at-init : goal.loop-at-init
-loop-at-init c =
-    let start = at_start c.args.text.now c.header_length-at.result c.header_length-at.ensures.value in
-    record {
-      same = rw (c.new-tokens.ensures.items, c.place_after-place.ensures.value) start;
-      few = rw c.new-tokens.ensures.items (omega arith);
-      within = c.header_length-at.ensures.bound;
-      line = grind (arith, common_steps, c.place_after-place.ensures.line);
-      column = grind (arith, common_steps, c.place_after-place.ensures.column);
-    }
-
-pub returns-in_err-length-clause-exact : goal.returns-in_err-length-clause-exact
-returns-in_err-length-clause-exact c =
-    let p = err_from_is_err_and c.from_residual.result c.from_residual.ensures.1 in
-    rw (p.1, p.2) (too_many_left c.args.text.now _ _ _ _ (omega arith) c.loop-at.invariant.same c.in_err-length.ensures.full)
-
-pub loop-at-preserved : goal.loop-at-preserved
-loop-at-preserved c =
-    let goes = c.in_ok-length.ensures.ok in
-    record {
-      same = still_all c.args.text.now _ _ _ _ _ _ _ goes c.place_after-place-in-loop-at.ensures.value c.loop-at.invariant.same;
-      few = c.scan_next.ensures.few;
-      within = grind (arith, common_steps, goes.bound);
-      line = grind (arith, common_steps, c.place_after-place-in-loop-at.ensures.line);
-      column = grind (arith, common_steps, c.place_after-place-in-loop-at.ensures.column);
-    }
+pub with_typedef_names-requires-clause-within : goal.with_typedef_names-requires-clause-within
+with_typedef_names-requires-clause-within c = rw c.deref.ensures.value (all_within (length c.args.text.now) _ c.in_ok-cut.ensures.ordered)
 
 pub returns-clause-exact : goal.returns-clause-exact
-returns-clause-exact c =
-    let past : length c.args.text.now ≤ c.loop-at.at = omega arith in
-    let all = at_end _ _ _ _ past c.loop-at.invariant.same in
-    (no_fault _ _ (omega arith) c.loop-at.invariant.few all, all)
+returns-clause-exact c = (
+  no_fault _ _ (omega arith) c.in_ok-cut.ensures.few c.in_ok-cut.ensures.exact,
+  c.in_ok-with_typedef_names.ensures ∙ ap (λ (ts : List Token). with_typedef_names c.args.text.now ts) c.deref.ensures.value
+      ∙ all_tokens _ _ c.in_ok-cut.ensures.exact,
+)
 
 pub returns-clause-ordered : goal.returns-clause-ordered
 returns-clause-ordered c =
-    let past : length c.args.text.now ≤ c.loop-at.at = omega arith in
-    let all = at_end _ _ _ _ past c.loop-at.invariant.same in
-    rw all (tokens_ordered c.args.text.now (header_within c.args.text.now))
+    rw (c.in_ok-with_typedef_names.ensures, c.deref.ensures.value) (in_order c.args.text.now (length c.args.text.now) c.in_ok-cut.cut.items c.in_ok-cut.ensures.ordered)
 
 pub returns-clause-within : goal.returns-clause-within
 returns-clause-within c =
-    let past : length c.args.text.now ≤ c.loop-at.at = omega arith in
-    let all = at_end _ _ _ _ past c.loop-at.invariant.same in
-    all_within c.args.text.now _ (rw all (tokens_ordered c.args.text.now (header_within c.args.text.now)))
+    all_within (length c.args.text.now) _
+    (rw (c.in_ok-with_typedef_names.ensures, c.deref.ensures.value) (in_order c.args.text.now (length c.args.text.now) c.in_ok-cut.cut.items c.in_ok-cut.ensures.ordered))
+
+pub returns-clause-classes : goal.returns-clause-classes
+returns-clause-classes c =
+    all_classed (length c.args.text.now) _
+    (rw (c.in_ok-with_typedef_names.ensures, c.deref.ensures.value) (in_order c.args.text.now (length c.args.text.now) c.in_ok-cut.cut.items c.in_ok-cut.ensures.ordered))
