@@ -21,3 +21,5 @@ pub mod RowsFound
 pub mod Shifts
 pub mod Steps
 pub mod Verdicts
+pub mod Reducing
+pub mod Folding

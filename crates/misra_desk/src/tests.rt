@@ -105,18 +105,14 @@ fn texts_of_the_form_are_judged_and_others_refused(rt: HostRuntime) -> Result<()
             CLEAN,
             0,
         ),
-        ("    goto end;\n", "refused U0 6:5 not-built\n", 2),
+        ("    goto end;\n", "refused U6 6:5 goto\n", 2),
         (
             "    (void)mtx_lock(&n);\n",
             "refused U0 6:21 not-built\n",
             2,
         ),
-        ("    (void)mtx_lock(&m)\n", "refused U0 7:5 not-built\n", 2),
-        (
-            "    (void)mtx_lock(&&m);\n",
-            "refused U0 6:20 not-built\n",
-            2,
-        ),
+        ("    (void)mtx_lock(&m)\n", "refused U7 7:5 return\n", 2),
+        ("    (void)mtx_lock(&&m);\n", "refused U7 6:20 &&\n", 2),
         (
             "    (void)mtx_init(&m, mtx_recursive);\n",
             "refused U0 6:24 not-built\n",
@@ -164,16 +160,10 @@ fn a_text_is_refused_where_it_leaves_the_form(rt: HostRuntime) -> Result<(), Fai
         ("static mtx_t a, b;\n", "refused U0 1:15 not-built\n"),
         (
             "int main(void)\n{\n    (void)mtx_lock(&m);\n",
-            "refused U0 3:5 not-built\n",
+            "refused U7 4:1 end\n",
         ),
-        (
-            "int main(void)\n{\n    return 0",
-            "refused U0 3:13 not-built\n",
-        ),
-        (
-            "int main(void) { return 0; }\n;",
-            "refused U0 2:1 not-built\n",
-        ),
+        ("int main(void)\n{\n    return 0", "refused U7 3:13 end\n"),
+        ("int main(void) { return 0; }\n;", "refused U7 2:1 ;\n"),
     ] {
         show(&rt, alloc, checked(text, output, 2))?;
     }
@@ -194,7 +184,7 @@ fn limits_of_bytes_and_tokens_are_met_exactly(rt: HostRuntime) -> Result<(), Fai
     for (piece, count, output) in [
         (" ", 262_144, "refused U0 1:262145 not-built\n"),
         (" ", 262_145, "refused U5 1:1 bytes\n"),
-        ("a ", 60_000, "refused U0 1:1 not-built\n"),
+        ("a ", 60_000, "refused U7 1:1 a\n"),
         ("a ", 60_001, "refused U5 1:120001 tokens\n"),
     ] {
         let text = repeated(alloc, piece, count)?;
