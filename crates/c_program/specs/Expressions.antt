@@ -4,6 +4,7 @@ use Rattle.misra_base.specs.declared.place.Place.{Place}
 use Rattle.c_program.specs.declared.expression.BinaryOperator.{BinaryOperator}
 use Rattle.c_program.specs.declared.expression.UnaryOperator.{UnaryOperator}
 use Rattle.c_program.specs.declared.expression.Qualifier.{Qualifier}
+use Rattle.c_program.specs.declared.expression.Keyword.{Keyword}
 use Rattle.c_program.specs.declared.expression.Word.{Word}
 
 pub record PointerData : Type 0 where
@@ -52,15 +53,13 @@ mutual
     specifier : SpecifierData → Specifiers → Specifiers
 
   pub data SpecifierData : Type 0 where
-    keyword : Word → SpecifierData
+    keyword : Place → Keyword → SpecifierData
     library_type : Word → SpecifierData
     typedef_name : Word → SpecifierData
-    structure : Place → Option Word → MaybeMembers → SpecifierData
-    enumeration : Place → Option Word → MaybeEnumerators → SpecifierData
-
-  pub data MaybeMembers : Type 0 where
-    undeclared_members : MaybeMembers
-    declared_members : Members → MaybeMembers
+    structure_reference : Place → Word → SpecifierData
+    structure_declaration : Place → Option Word → Members → SpecifierData
+    enumeration_reference : Place → Word → SpecifierData
+    enumeration_declaration : Place → Option Word → Enumerators → SpecifierData
 
   pub data Members : Type 0 where
     no_members : Members
@@ -79,10 +78,6 @@ mutual
 
   pub data BoundData : Type 0 where
     bound : MaybeExpression → Place → BoundData
-
-  pub data MaybeEnumerators : Type 0 where
-    undeclared_enumerators : MaybeEnumerators
-    declared_enumerators : Enumerators → MaybeEnumerators
 
   pub data Enumerators : Type 0 where
     no_enumerators : Enumerators

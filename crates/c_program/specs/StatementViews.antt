@@ -17,6 +17,11 @@ use Rattle.c_program.specs.declared.statement.ForStart.TheVariants as ForStartOf
 use Rattle.c_program.specs.declared.statement.CaseLabel.{CaseLabel}
 use Rattle.c_program.specs.declared.statement.Statement.{Statement, fold-Statement}
 use Rattle.c_program.specs.declared.statement.Block.{Block, fold-Block}
+use Rattle.c_program.specs.declared.statement.Item.{Item, fold-Item}
+use Rattle.c_program.specs.declared.statement.Otherwise.{Otherwise, fold-Otherwise}
+use Rattle.c_program.specs.declared.statement.Body.{Body, fold-Body}
+use Rattle.c_program.specs.declared.statement.Clause.{Clause, fold-Clause}
+use Rattle.c_program.specs.declared.statement.If.{If, fold-If}
 use Rattle.c_program.specs.declared.statement.Item.TheOpen.{Item-F, Otherwise-F, Statement-F, Block-F, Body-F, Clause-F, If-F}
 use Rattle.c_program.specs.declared.tree.Function.{Function}
 use Rattle.c_program.specs.declared.tree.External.{External}
@@ -128,6 +133,21 @@ statement_view = fold-Statement _ _ _ _ _ _ _ item_level otherwise_level stateme
 
 abbrev pub block_view : Block → Statements.BlockData
 block_view = fold-Block _ _ _ _ _ _ _ item_level otherwise_level statement_level block_level body_level clause_level if_level
+
+abbrev pub item_view : Item → Statements.ItemData
+item_view = fold-Item _ _ _ _ _ _ _ item_level otherwise_level statement_level block_level body_level clause_level if_level
+
+abbrev pub otherwise_view : Otherwise → Statements.OtherwiseData
+otherwise_view = fold-Otherwise _ _ _ _ _ _ _ item_level otherwise_level statement_level block_level body_level clause_level if_level
+
+abbrev pub body_view : Body → Statements.BodyData
+body_view = fold-Body _ _ _ _ _ _ _ item_level otherwise_level statement_level block_level body_level clause_level if_level
+
+abbrev pub clause_view : Clause → OneClause
+clause_view = fold-Clause _ _ _ _ _ _ _ item_level otherwise_level statement_level block_level body_level clause_level if_level
+
+abbrev pub if_view : If → Statements.IfData
+if_view = fold-If _ _ _ _ _ _ _ item_level otherwise_level statement_level block_level body_level clause_level if_level
 
 -- ---- translation units
 

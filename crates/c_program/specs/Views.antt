@@ -1,7 +1,5 @@
 -- What the types of the tree stand for.
 use Rattle.std.specs.Prelude.{ℕ, List, [], ◌∷◌, map, Option, None, Some}
-use Rattle.std.specs.declared.vec.Vec.{Vec}
-use Rattle.std.specs.declared.alloc.Global.{Global}
 use Rattle.misra_base.specs.declared.place.Place.{Place}
 use Rattle.c_program.specs.declared.expression.BinaryOperator.{BinaryOperator}
 use Rattle.c_program.specs.declared.expression.Word.{Word}
@@ -14,6 +12,8 @@ use Rattle.c_program.specs.declared.expression.Operation.{Operation, fold-Operat
 use Rattle.c_program.specs.declared.expression.TypeName.{TypeName, fold-TypeName}
 use Rattle.c_program.specs.declared.expression.Declarator.{Declarator, fold-Declarator}
 use Rattle.c_program.specs.declared.expression.Bound.{Bound, fold-Bound}
+use Rattle.c_program.specs.declared.expression.MemberDeclaration.{MemberDeclaration, fold-MemberDeclaration}
+use Rattle.c_program.specs.declared.expression.Enumerator.{Enumerator, fold-Enumerator}
 use Rattle.c_program.specs.Expressions
 
 -- one of a list of operations, of members, of enumerators
@@ -71,14 +71,6 @@ abbrev pub enumerators_of : List OneEnumerator → Expressions.Enumerators
 enumerators_of [] = Expressions.no_enumerators
 enumerators_of (e ∷ es) = Expressions.enumerator e.name e.value (enumerators_of es)
 
-abbrev pub maybe_members : Option (Vec OneMember Global) → Expressions.MaybeMembers
-maybe_members None = Expressions.undeclared_members
-maybe_members (Some ms) = Expressions.declared_members (members_of ms.items)
-
-abbrev pub maybe_enumerators : Option (Vec OneEnumerator Global) → Expressions.MaybeEnumerators
-maybe_enumerators None = Expressions.undeclared_enumerators
-maybe_enumerators (Some es) = Expressions.declared_enumerators (enumerators_of es.items)
-
 -- ---- one level of each type, with what it holds already seen as data
 
 module _ where
@@ -103,11 +95,13 @@ postfix_level (Postfix-F.Member p w) = Expressions.member p w
 postfix_level (Postfix-F.Arrow p w) = Expressions.arrow p w
 
 abbrev pub specifier_level : Level Specifier-F → Expressions.SpecifierData
-specifier_level (Specifier-F.Keyword w) = Expressions.keyword w
+specifier_level (Specifier-F.Keyword p k) = Expressions.keyword p k
 specifier_level (Specifier-F.LibraryType w) = Expressions.library_type w
 specifier_level (Specifier-F.TypedefName w) = Expressions.typedef_name w
-specifier_level (Specifier-F.Struct p t ms) = Expressions.structure p t (maybe_members ms)
-specifier_level (Specifier-F.Enum p t es) = Expressions.enumeration p t (maybe_enumerators es)
+specifier_level (Specifier-F.StructReference p t) = Expressions.structure_reference p t
+specifier_level (Specifier-F.StructDeclaration p t ms) = Expressions.structure_declaration p t (members_of ms.items)
+specifier_level (Specifier-F.EnumReference p t) = Expressions.enumeration_reference p t
+specifier_level (Specifier-F.EnumDeclaration p t es) = Expressions.enumeration_declaration p t (enumerators_of es.items)
 
 abbrev pub bound_level : Level Bound-F → Expressions.BoundData
 bound_level b = Expressions.bound (maybe_of b.size) b.close
@@ -134,6 +128,15 @@ expression_view = fold-Expression _ _ _ _ _ _ _ _ _ expression_level postfix_lev
 
 abbrev pub operation_view : Operation → OneOperation
 operation_view = fold-Operation _ _ _ _ _ _ _ _ _ expression_level postfix_level specifier_level bound_level declarator_level enumerator_level member_level operation_level type_name_level
+
+abbrev pub postfix_view : Postfix → Expressions.PostfixData
+postfix_view = fold-Postfix _ _ _ _ _ _ _ _ _ expression_level postfix_level specifier_level bound_level declarator_level enumerator_level member_level operation_level type_name_level
+
+abbrev pub member_view : MemberDeclaration → OneMember
+member_view = fold-MemberDeclaration _ _ _ _ _ _ _ _ _ expression_level postfix_level specifier_level bound_level declarator_level enumerator_level member_level operation_level type_name_level
+
+abbrev pub enumerator_view : Enumerator → OneEnumerator
+enumerator_view = fold-Enumerator _ _ _ _ _ _ _ _ _ expression_level postfix_level specifier_level bound_level declarator_level enumerator_level member_level operation_level type_name_level
 
 abbrev pub type_name_view : TypeName → Expressions.TypeNameData
 type_name_view = fold-TypeName _ _ _ _ _ _ _ _ _ expression_level postfix_level specifier_level bound_level declarator_level enumerator_level member_level operation_level type_name_level

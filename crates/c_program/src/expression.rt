@@ -41,6 +41,26 @@ pub enum UnaryOperator {
     Not,
 }
 
+/// A keyword among declaration specifiers (C11 6.7.1 to 6.7.4).
+#[derive(Clone, Copy, Debug, PartialEq, Eq)]
+pub enum Keyword {
+    Static,
+    Extern,
+    Inline,
+    ThreadLocal,
+    Const,
+    Volatile,
+    Atomic,
+    Void,
+    Char,
+    Short,
+    Int,
+    Long,
+    Signed,
+    Unsigned,
+    Bool,
+}
+
 /// A type qualifier of a pointer (C11 6.7.3).
 #[derive(Clone, Copy, Debug, PartialEq, Eq)]
 pub enum Qualifier {
@@ -141,19 +161,35 @@ pub struct TypeName {
 #[cycle(expression)]
 #[derive(Debug, Drop)]
 pub enum Specifier {
-    /// A keyword, by its text.
-    Keyword(Word),
-    LibraryType(Word),
-    TypedefName(Word),
-    Struct {
+    Keyword {
         place: Place,
-        tag: Option<Word>,
-        members: Option<Vec<MemberDeclaration>>,
+        keyword: Keyword,
     },
-    Enum {
+    /// A type of the library.
+    LibraryType(Word),
+    /// A name that `typedef` has declared.
+    TypedefName(Word),
+    /// `struct tag`
+    StructReference {
+        place: Place,
+        tag: Word,
+    },
+    /// `struct [ tag ] { members }`
+    StructDeclaration {
         place: Place,
         tag: Option<Word>,
-        enumerators: Option<Vec<Enumerator>>,
+        members: Vec<MemberDeclaration>,
+    },
+    /// `enum tag`
+    EnumReference {
+        place: Place,
+        tag: Word,
+    },
+    /// `enum [ tag ] { enumerators }`
+    EnumDeclaration {
+        place: Place,
+        tag: Option<Word>,
+        enumerators: Vec<Enumerator>,
     },
 }
 

@@ -3,7 +3,6 @@
 
 mod declaration;
 mod expression;
-mod making;
 mod statement;
 mod tree;
 
@@ -11,10 +10,9 @@ pub use declaration::{
     Declaration, InitDeclarator, Initialization, Initializer, Parameter, TypeDefinition,
 };
 pub use expression::{
-    BinaryOperator, Bound, Declarator, Enumerator, Expression, MemberDeclaration, Operation,
+    BinaryOperator, Bound, Declarator, Enumerator, Expression, Keyword, MemberDeclaration, Operation,
     Pointer, Postfix, Qualifier, Specifier, TypeName, UnaryOperator, Word,
 };
-pub use making::{binary, operation, sizeof_type, translation_unit, while_statement};
 pub use statement::{
     AssignmentOperator, Block, Body, CaseLabel, Clause, ForStart, If, Item, Leave, Otherwise,
     Simple, Statement, Step,

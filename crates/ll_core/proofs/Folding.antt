@@ -9,7 +9,7 @@ use Rattle.ll_core.specs.Trees.{Forest, Empty, Leaf, Node, IsForest, leaves, rig
 use Rattle.ll_core.specs.Postorder.{postorder}
 use Rattle.ll_core.specs.Folds.{fold_forest, run_steps, size_in}
 
-turned : {A : Type 0} (vs : List A) (y : A) (stack : List A) → reverse vs ++ y ∷ stack ≡ reverse (y ∷ vs) ++ stack
+pub turned : {A : Type 0} (vs : List A) (y : A) (stack : List A) → reverse vs ++ y ∷ stack ≡ reverse (y ∷ vs) ++ stack
 turned vs y stack = sym (ap (λ ws. ws ++ stack) (reverse-append (y ∷ []) vs) ∙ append_assoc (reverse vs) (y ∷ []) stack)
 
 module _ {A : Type 0} (node : ℕ → List A → A) (g : List Production) where

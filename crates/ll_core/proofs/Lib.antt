@@ -11,6 +11,7 @@ pub mod ListedLaw
 pub mod ListedTests
 pub mod ListedTruth
 pub mod Lookups
+pub mod OneDerivation
 pub mod Pairs
 pub mod Placing
 pub mod PredictedSets
