@@ -56,6 +56,7 @@ fn built<'a>(
     ensures part { IfOk result (λ p. part_view p ∷ [] ≡ run_steps node_of PRODUCTIONS events.now [] (leaves_of text.now tokens.now)) }
 {
     let mut stack = Vec::new(alloc);
+    let mut parts = Parts::new(alloc);
     let mut shifted = 0;
     for event in events {
         match event {
@@ -64,7 +65,7 @@ fn built<'a>(
                 shifted += 1;
             }
             Event::Reduce(number) => {
-                let part = reduced(alloc, *number, &mut stack)?;
+                let part = reduced(alloc, *number, &mut stack, &mut parts)?;
                 stack.push(part)?;
             }
         }
@@ -86,24 +87,25 @@ fn leaf<'a>(text: &'a [u8], token: Token) -> Leaf<'a>
     }
 }
 
-/// What a production makes of the last parts on the stack, which go.
+/// What a production makes of the last parts on the stack, which go. `parts` is room for them.
 fn reduced<'a>(
     alloc: Global,
     number: u16,
     stack: &mut Vec<Part<'a>>,
+    parts: &mut Parts<'a>,
 ) -> Result<Part<'a>, AllocError>
     requires { IsReady number (stack_view stack.now.items) }
     ensures part { IfOk result (λ p. part_view p ≡ node_of number (reverse (take (size_in PRODUCTIONS number) (stack_view stack.old.items)))) }
     ensures stack { OnOk result (stack_view stack.new.items ≡ drop (size_in PRODUCTIONS number) (stack_view stack.old.items)) }
 {
-    let mut parts = Parts::new(alloc);
+    parts.clear();
     for _ in 0..size_of(number) {
         match stack.pop() {
             Some(part) => parts.put_front(part)?,
             None => unreachable!(),
         }
     }
-    part(alloc, action_of(number), &mut parts)
+    part(alloc, action_of(number), parts)
 }
 
 /// How many parts a production takes.

@@ -44,6 +44,13 @@ impl<T: Drop> Chain<T> {
         self.backwards.pop()
     }
 
+    /// Drops all items, and keeps the room for them.
+    pub fn clear(&mut self)
+        ensures { self.new ≡ [] }
+    {
+        self.backwards.clear();
+    }
+
     /// Whether there are no items.
     pub fn is_empty(&self) -> bool
         ensures { result ≡ is_nil self.now }

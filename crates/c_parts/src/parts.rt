@@ -25,6 +25,13 @@ impl<'a> Parts<'a> {
         }
     }
 
+    /// Drops all parts, and keeps the room for them.
+    pub fn clear(&mut self)
+        ensures { parts_view self.new ≡ [] }
+    {
+        self.chain.clear();
+    }
+
     /// Puts a part before all others.
     pub fn put_front(&mut self, part: Part<'a>) -> Result<(), AllocError>
         ensures { OnOk result (parts_view self.new ≡ part_view part.entry ∷ parts_view self.old) }

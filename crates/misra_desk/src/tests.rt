@@ -5,13 +5,13 @@ use std::alloc::{AllocError, Global};
 use std::process::Abort;
 use std::test::Fail;
 
-const HEAD: &str =
+pub(crate) const HEAD: &str =
     "#include <threads.h>\nstatic mtx_t m;\nint main(void)\n{\n    (void)mtx_init(&m, mtx_plain);\n";
 
-const TAIL: &str = "    return 0;\n}\n";
+pub(crate) const TAIL: &str = "    return 0;\n}\n";
 
 /// The eight lines with an unlock that is found.
-const UNLOCK: &str =
+pub(crate) const UNLOCK: &str =
     "#include <threads.h>\nstatic mtx_t m;\nint main(void)\n{\n    (void)mtx_init(&m, mtx_plain);\n    (void)mtx_unlock(&m);\n    return 0;\n}\n";
 
 const FOUND: &str = "report 1\nR22.17 6:11 main m unlock -\nR22.17 1\nfindings 1\n";
@@ -23,7 +23,7 @@ const CLEAN: &str = "report 1\nR22.17 clean\nfindings 0\n";
 
 /// One run of the program over the file `text.c`, with what it writes and its status.
 #[derive(Clone, Copy)]
-struct Case<'a> {
+pub(crate) struct Case<'a> {
     words: &'a [&'a str],
     text: &'a str,
     /// The numbers of the calls of the files that fail.
@@ -58,7 +58,7 @@ fn status_of(alloc: Global, case: &Case, out: &mut MemorySink) -> Result<u8, All
 }
 
 /// Shows that the program does what the case says.
-fn show(rt: &impl Abort, alloc: Global, case: Case) -> Result<(), Fail> {
+pub(crate) fn show(rt: &impl Abort, alloc: Global, case: Case) -> Result<(), Fail> {
     let Case { text, status, .. } = case;
     let mut out = MemorySink::new(alloc, Vec::from_slice(alloc, case.output_failing)?);
     let answered = status_of(alloc, &case, &mut out)?;
@@ -68,7 +68,7 @@ fn show(rt: &impl Abort, alloc: Global, case: Case) -> Result<(), Fail> {
 }
 
 /// `check` over a text, where no call fails.
-fn checked<'a>(text: &'a str, output: &'a str, status: u8) -> Case<'a> {
+pub(crate) fn checked<'a>(text: &'a str, output: &'a str, status: u8) -> Case<'a> {
     Case {
         words: &["check", "text.c"],
         text,
@@ -80,14 +80,14 @@ fn checked<'a>(text: &'a str, output: &'a str, status: u8) -> Case<'a> {
 }
 
 /// A whole text of the form with these lines at its end.
-fn framed(alloc: Global, lines: &str) -> Result<String, AllocError> {
+pub(crate) fn framed(alloc: Global, lines: &str) -> Result<String, AllocError> {
     let mut text = String::from_str(alloc, HEAD)?;
     text.push_str(lines)?;
     text.push_str(TAIL)?;
     Ok(text)
 }
 
-fn repeated(alloc: Global, piece: &str, count: usize) -> Result<String, AllocError> {
+pub(crate) fn repeated(alloc: Global, piece: &str, count: usize) -> Result<String, AllocError> {
     let mut text = String::new(alloc);
     for _ in 0..count {
         text.push_str(piece)?;
