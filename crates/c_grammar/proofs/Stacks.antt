@@ -38,6 +38,7 @@ fits_of (k ∷ ks) (p ∷ ps) e = (same_head e, fits_of ks ps (same_tail e))
   where
     same_head : kind_of p ∷ map kind_of ps ≡ k ∷ ks → kind_of p ≡ k
     same_head e = cc
+
     same_tail : kind_of p ∷ map kind_of ps ≡ k ∷ ks → map kind_of ps ≡ ks
     same_tail e = cc
 
@@ -106,6 +107,7 @@ module _ (text : List ℕ) (tokens : List Token) (events : List Event) (i k : �
     where
       size : length (drop k tokens) ≡ length tokens - k
       size = length-drop k tokens
+
       at : (n : ℕ) → length (drop k tokens) ≡ n → IsRun (Shift ∷ drop (suc i) events) n (map kind_of stack) → k < length tokens
       at zero e r = absurd r
       at (suc n) e r = omega (arith, e, size)
@@ -120,7 +122,7 @@ module _ (text : List ℕ) (tokens : List Token) (events : List Event) (i k : �
         in_range = omega (arith, left);
         typed = subst (λ p. IsRun (drop (suc i) events) (length (drop (suc k) tokens)) (kind_of p ∷ map kind_of stack)) (sym made_of)
             (subst (λ ts. IsRun (Shift ∷ drop (suc i) events) (length ts) (map kind_of stack)) rest
-                (subst (λ v. IsRun (v ∷ drop (suc i) events) (length (drop k tokens)) (map kind_of stack)) e typed_next));
+            (subst (λ v. IsRun (v ∷ drop (suc i) events) (length (drop k tokens)) (map kind_of stack)) e typed_next));
         same = ap (λ p. run_steps node_of PRODUCTIONS (drop (suc i) events) (p ∷ stack) (leaves_of text (drop (suc k) tokens))) made_of
             ∙ ap (λ ts. run_steps node_of PRODUCTIONS (Shift ∷ drop (suc i) events) stack (leaves_of text ts)) (sym rest)
             ∙ ap (λ v. run_steps node_of PRODUCTIONS (v ∷ drop (suc i) events) stack (leaves_of text (drop k tokens))) (sym e)

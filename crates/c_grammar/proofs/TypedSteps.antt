@@ -69,6 +69,7 @@ fellow {A} {P} {K} f g xs ps n p same found = at (slice_get xs n) refl
   where
     both : option_map f (slice_get xs n) ≡ Some (g p)
     both = sym (slice_get-map f xs n) ∙ ap (λ l. slice_get l n) same ∙ slice_get-map g ps n ∙ ap (option_map g) found
+
     at : (o : Option A) → slice_get xs n ≡ o → (a : A) × (slice_get xs n ≡ Some a) × (f a ≡ g p)
     at None e = absurd (none-some (g p) (sym (ap (option_map f) e) ∙ both))
     at (Some a) e = (a, e, same_Some (f a) (g p) (sym (ap (option_map f) e) ∙ both))

@@ -1,7 +1,8 @@
 //! What each production of the grammar makes of its parts, as tools/c_grammar.py writes it from tools/c_actions.txt.
 
 use c_nodes::{
-    Action, DeclaratorAction, ExpressionAction, ExternalAction, SpecifierAction, StatementAction, SwitchAction,
+    Action, DeclaratorAction, ExpressionAction, ExternalAction, SpecifierAction, StatementAction,
+    SwitchAction,
 };
 use c_program::{AssignmentOperator, BinaryOperator, Keyword, Qualifier, Step, UnaryOperator};
 
@@ -149,24 +150,24 @@ pub static ACTIONS: [Action; 234] = [
     Action::Switch(SwitchAction::Statements), // 138 body_1 = statement body_1
     Action::Switch(SwitchAction::NoStatements), // 139 body_1 =
     Action::Switch(SwitchAction::PrefixStep), // 140 simple = simple_1 unary
-    Action::Switch(SwitchAction::StepSign(Step::Increment)), // 141 simple_1 = "++"
-    Action::Switch(SwitchAction::StepSign(Step::Decrement)), // 142 simple_1 = "--"
+    Action::Expression(ExpressionAction::StepSign(Step::Increment)), // 141 simple_1 = "++"
+    Action::Expression(ExpressionAction::StepSign(Step::Decrement)), // 142 simple_1 = "--"
     Action::Switch(SwitchAction::Simple), // 143 simple = cond simple_2
     Action::Switch(SwitchAction::Assignment), // 144 simple_2 = assign cond
     Action::Switch(SwitchAction::PostfixStep(Step::Increment)), // 145 simple_2 = "++"
     Action::Switch(SwitchAction::PostfixStep(Step::Decrement)), // 146 simple_2 = "--"
     Action::Switch(SwitchAction::NoSimpleRest), // 147 simple_2 =
-    Action::Switch(SwitchAction::AssignmentSign(AssignmentOperator::Assign)), // 148 assign = "="
-    Action::Switch(SwitchAction::AssignmentSign(AssignmentOperator::Multiply)), // 149 assign = "*="
-    Action::Switch(SwitchAction::AssignmentSign(AssignmentOperator::Divide)), // 150 assign = "/="
-    Action::Switch(SwitchAction::AssignmentSign(AssignmentOperator::Remainder)), // 151 assign = "%="
-    Action::Switch(SwitchAction::AssignmentSign(AssignmentOperator::Add)), // 152 assign = "+="
-    Action::Switch(SwitchAction::AssignmentSign(AssignmentOperator::Subtract)), // 153 assign = "-="
-    Action::Switch(SwitchAction::AssignmentSign(AssignmentOperator::ShiftLeft)), // 154 assign = "<<="
-    Action::Switch(SwitchAction::AssignmentSign(AssignmentOperator::ShiftRight)), // 155 assign = ">>="
-    Action::Switch(SwitchAction::AssignmentSign(AssignmentOperator::And)), // 156 assign = "&="
-    Action::Switch(SwitchAction::AssignmentSign(AssignmentOperator::Xor)), // 157 assign = "^="
-    Action::Switch(SwitchAction::AssignmentSign(AssignmentOperator::Or)), // 158 assign = "|="
+    Action::Expression(ExpressionAction::AssignmentSign(AssignmentOperator::Assign)), // 148 assign = "="
+    Action::Expression(ExpressionAction::AssignmentSign(AssignmentOperator::Multiply)), // 149 assign = "*="
+    Action::Expression(ExpressionAction::AssignmentSign(AssignmentOperator::Divide)), // 150 assign = "/="
+    Action::Expression(ExpressionAction::AssignmentSign(AssignmentOperator::Remainder)), // 151 assign = "%="
+    Action::Expression(ExpressionAction::AssignmentSign(AssignmentOperator::Add)), // 152 assign = "+="
+    Action::Expression(ExpressionAction::AssignmentSign(AssignmentOperator::Subtract)), // 153 assign = "-="
+    Action::Expression(ExpressionAction::AssignmentSign(AssignmentOperator::ShiftLeft)), // 154 assign = "<<="
+    Action::Expression(ExpressionAction::AssignmentSign(AssignmentOperator::ShiftRight)), // 155 assign = ">>="
+    Action::Expression(ExpressionAction::AssignmentSign(AssignmentOperator::And)), // 156 assign = "&="
+    Action::Expression(ExpressionAction::AssignmentSign(AssignmentOperator::Xor)), // 157 assign = "^="
+    Action::Expression(ExpressionAction::AssignmentSign(AssignmentOperator::Or)), // 158 assign = "|="
     Action::Expression(ExpressionAction::Conditional), // 159 cond = lor cond_1
     Action::Expression(ExpressionAction::Branches), // 160 cond_1 = "?" cond ":" cond
     Action::Expression(ExpressionAction::NoBranches), // 161 cond_1 =

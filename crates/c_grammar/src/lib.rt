@@ -8,8 +8,8 @@ mod syntax;
 mod syntax_tree;
 mod tables;
 
-pub use grammar::c_grammar;
 pub use actions::ACTIONS;
+pub use grammar::c_grammar;
 pub use syntax::derivation;
 pub use syntax_tree::tree;
 pub use tables::{PRODUCTIONS, ROWS};

@@ -51,6 +51,8 @@ expression_kind ExpressionOf.Arrow parts = refl
 expression_kind ExpressionOf.SomeExpression parts = refl
 expression_kind ExpressionOf.InitialExpression parts = refl
 expression_kind ExpressionOf.NoExpression parts = refl
+expression_kind (ExpressionOf.AssignmentSign operator) parts = refl
+expression_kind (ExpressionOf.StepSign step) parts = refl
 
 specifier_kind : (action : SpecifierAction) (parts : List PartData.PartData) → kind_of (node (ActionOf.Specifier action) parts) ≡ kind (ActionOf.Specifier action)
 specifier_kind SpecifierOf.Specifiers parts = refl
@@ -171,8 +173,6 @@ switch_kind SwitchOf.Simple parts = refl
 switch_kind SwitchOf.Assignment parts = refl
 switch_kind (SwitchOf.PostfixStep step) parts = refl
 switch_kind SwitchOf.NoSimpleRest parts = refl
-switch_kind (SwitchOf.AssignmentSign operator) parts = refl
-switch_kind (SwitchOf.StepSign step) parts = refl
 
 pub node_kind : (action : Action) (parts : List PartData.PartData) → kind_of (node action parts) ≡ kind action
 node_kind ActionOf.Tag parts = refl

@@ -43,6 +43,8 @@ kinds ActionOf.Arrow = Kinds.leaf ∷ Kinds.leaf ∷ []
 kinds ActionOf.SomeExpression = Kinds.operand ∷ []
 kinds ActionOf.InitialExpression = Kinds.leaf ∷ Kinds.operand ∷ []
 kinds ActionOf.NoExpression = []
+kinds (ActionOf.AssignmentSign operator) = Kinds.leaf ∷ []
+kinds (ActionOf.StepSign step) = Kinds.leaf ∷ []
 
 -- what it makes
 abbrev pub kind : ExpressionAction → Kinds.Kind
@@ -78,6 +80,8 @@ kind ActionOf.Arrow = Kinds.postfix
 kind ActionOf.SomeExpression = Kinds.optional_expression
 kind ActionOf.InitialExpression = Kinds.optional_expression
 kind ActionOf.NoExpression = Kinds.optional_expression
+kind (ActionOf.AssignmentSign operator) = Kinds.assignment_sign
+kind (ActionOf.StepSign step) = Kinds.step_sign
 
 -- an expression that is not in brackets, and one that is
 abbrev pub plain : Expressions.ExpressionData → PartData.OperandData
@@ -139,3 +143,5 @@ node ActionOf.Arrow ps = PartData.postfix (Expressions.arrow (leaf_of (part 0 ps
 node ActionOf.SomeExpression ps = PartData.optional_expression (Some (operand_of (part 0 ps)).expression)
 node ActionOf.InitialExpression ps = PartData.optional_expression (Some (operand_of (part 1 ps)).expression)
 node ActionOf.NoExpression ps = PartData.optional_expression None
+node (ActionOf.AssignmentSign operator) ps = PartData.assignment_sign (record { place = (leaf_of (part 0 ps)).place; operator = operator })
+node (ActionOf.StepSign step) ps = PartData.step_sign (record { place = (leaf_of (part 0 ps)).place; step = step })

@@ -27,8 +27,6 @@ kinds ActionOf.Simple = Kinds.operand ∷ Kinds.simple_rest ∷ []
 kinds ActionOf.Assignment = Kinds.assignment_sign ∷ Kinds.operand ∷ []
 kinds (ActionOf.PostfixStep step) = Kinds.leaf ∷ []
 kinds ActionOf.NoSimpleRest = []
-kinds (ActionOf.AssignmentSign operator) = Kinds.leaf ∷ []
-kinds (ActionOf.StepSign step) = Kinds.leaf ∷ []
 
 -- what it makes
 abbrev pub kind : SwitchAction → Kinds.Kind
@@ -49,8 +47,6 @@ kind ActionOf.Simple = Kinds.simple
 kind ActionOf.Assignment = Kinds.simple_rest
 kind (ActionOf.PostfixStep step) = Kinds.simple_rest
 kind ActionOf.NoSimpleRest = Kinds.simple_rest
-kind (ActionOf.AssignmentSign operator) = Kinds.assignment_sign
-kind (ActionOf.StepSign step) = Kinds.step_sign
 
 abbrev pub simple : PartData.OperandData → Option PartData.SimpleRestData → Statements.SimpleData
 simple left None = Statements.simple_expression left.expression
@@ -75,5 +71,3 @@ node ActionOf.Simple ps = PartData.simple (simple (operand_of (part 0 ps)) (simp
 node ActionOf.Assignment ps = PartData.simple_rest (Some (PartData.rest_assignment (assignment_sign_of (part 0 ps)).place (assignment_sign_of (part 0 ps)).operator (operand_of (part 1 ps)).expression))
 node (ActionOf.PostfixStep step) ps = PartData.simple_rest (Some (PartData.rest_step (leaf_of (part 0 ps)).place step))
 node ActionOf.NoSimpleRest ps = PartData.simple_rest None
-node (ActionOf.AssignmentSign operator) ps = PartData.assignment_sign (record { place = (leaf_of (part 0 ps)).place; operator = operator })
-node (ActionOf.StepSign step) ps = PartData.step_sign (record { place = (leaf_of (part 0 ps)).place; step = step })

@@ -26,7 +26,11 @@ pub enum Action {
 }
 
 /// What the production makes of the parts.
-pub fn part<'a>(alloc: Global, action: Action, parts: &mut Parts<'a>) -> Result<Part<'a>, AllocError>
+pub fn part<'a>(
+    alloc: Global,
+    action: Action,
+    parts: &mut Parts<'a>,
+) -> Result<Part<'a>, AllocError>
     requires { Fits (kinds action) (parts_view parts.now) }
     ensures { IfOk result (λ p. part_view p ≡ node action (parts_view parts.old)) }
 {

@@ -9,7 +9,9 @@ ghost use Rattle.c_nodes.specs.declared.declarator_nodes.DeclaratorAction.TheVar
 ghost use Rattle.c_nodes.specs.DeclaratorNodes.{kinds, node, all_declarators};
 
 use c_parts::{Chain, DeclarationPart, Leaf, Objects, Parts};
-use c_program::{Bound, Declarator, InitDeclarator, Initialization, Initializer, Pointer, Qualifier};
+use c_program::{
+    Bound, Declarator, InitDeclarator, Initialization, Initializer, Pointer, Qualifier,
+};
 use std::alloc::{AllocError, Global};
 
 /// What a production of declarators and initialisers makes of its parts.
@@ -92,7 +94,9 @@ pub(crate) fn declarator_node(
         DeclaratorAction::Initialization => Ok(initialization(parts)),
         DeclaratorAction::NoInitialization => Ok(DeclarationPart::Initialization(None)),
         DeclaratorAction::InitDeclarators => init_declarators(alloc, parts),
-        DeclaratorAction::NoInitDeclarators => Ok(DeclarationPart::InitDeclarators(Chain::new(alloc))),
+        DeclaratorAction::NoInitDeclarators => Ok(DeclarationPart::InitDeclarators(Chain::new(
+            alloc,
+        ))),
         DeclaratorAction::Objects => Ok(objects(parts)),
         DeclaratorAction::OnlyTypes => Ok(DeclarationPart::InitDeclarators(Chain::new(alloc))),
         DeclaratorAction::Declarators => declarators(alloc, parts),
@@ -116,7 +120,10 @@ fn pointer(parts: &mut Parts) -> Result<DeclarationPart, AllocError>
     let star = parts.leaf();
     let qualifiers = parts.qualifiers();
     let mut pointers = parts.pointers();
-    pointers.put_front(Pointer { place: star.place, qualifiers: qualifiers.into_vec() })?;
+    pointers.put_front(Pointer {
+        place: star.place,
+        qualifiers: qualifiers.into_vec(),
+    })?;
     Ok(DeclarationPart::Pointers(pointers))
 }
 
@@ -136,7 +143,10 @@ fn bound(parts: &mut Parts) -> Result<DeclarationPart, AllocError>
     let size = parts.optional_expression();
     let close = parts.leaf();
     let mut bounds = parts.bounds();
-    bounds.put_front(Bound { size, close: close.place })?;
+    bounds.put_front(Bound {
+        size,
+        close: close.place,
+    })?;
     Ok(DeclarationPart::Bounds(bounds))
 }
 
@@ -148,7 +158,10 @@ fn member_bound(parts: &mut Parts) -> Result<DeclarationPart, AllocError>
     let size = parts.operand();
     let close = parts.leaf();
     let mut bounds = parts.bounds();
-    bounds.put_front(Bound { size: Some(size.expression), close: close.place })?;
+    bounds.put_front(Bound {
+        size: Some(size.expression),
+        close: close.place,
+    })?;
     Ok(DeclarationPart::Bounds(bounds))
 }
 
@@ -186,7 +199,10 @@ fn initializer_list(parts: &mut Parts) -> Result<DeclarationPart, AllocError>
     let first = parts.initializer();
     let mut others = parts.initializers();
     others.put_front(first)?;
-    Ok(DeclarationPart::Initializer(Initializer::List { place: brace.place, items: others.into_vec() }))
+    Ok(DeclarationPart::Initializer(Initializer::List {
+        place: brace.place,
+        items: others.into_vec(),
+    }))
 }
 
 fn initializers_behind_comma(parts: &mut Parts) -> DeclarationPart
@@ -222,7 +238,10 @@ fn initialization(parts: &mut Parts) -> DeclarationPart
 {
     let sign = parts.leaf();
     let value = parts.initializer();
-    DeclarationPart::Initialization(Some(Initialization { place: sign.place, value }))
+    DeclarationPart::Initialization(Some(Initialization {
+        place: sign.place,
+        value,
+    }))
 }
 
 fn init_declarators(alloc: Global, parts: &mut Parts) -> Result<DeclarationPart, AllocError>
@@ -235,7 +254,10 @@ fn init_declarators(alloc: Global, parts: &mut Parts) -> Result<DeclarationPart,
     let bounds = parts.bounds();
     let initialization = parts.initialization();
     let mut declarators = parts.init_declarators();
-    declarators.put_front(InitDeclarator { declarator: declarator(alloc, pointers, name, bounds)?, initialization })?;
+    declarators.put_front(InitDeclarator {
+        declarator: declarator(alloc, pointers, name, bounds)?,
+        initialization,
+    })?;
     Ok(DeclarationPart::InitDeclarators(declarators))
 }
 
@@ -246,7 +268,11 @@ fn objects(parts: &mut Parts) -> DeclarationPart
     let bounds = parts.bounds();
     let initialization = parts.initialization();
     let others = parts.init_declarators();
-    DeclarationPart::Objects(Objects { bounds, initialization, others })
+    DeclarationPart::Objects(Objects {
+        bounds,
+        initialization,
+        others,
+    })
 }
 
 fn declarators(alloc: Global, parts: &mut Parts) -> Result<DeclarationPart, AllocError>
@@ -260,7 +286,12 @@ fn declarators(alloc: Global, parts: &mut Parts) -> Result<DeclarationPart, Allo
 }
 
 /// A declarator.
-fn declarator(alloc: Global, pointers: Chain<Pointer>, name: Leaf, bounds: Chain<Bound>) -> Result<Declarator, AllocError>
+fn declarator(
+    alloc: Global,
+    pointers: Chain<Pointer>,
+    name: Leaf,
+    bounds: Chain<Bound>,
+) -> Result<Declarator, AllocError>
     ensures { IfOk result (λ d. declarator_view d ≡ Expressions.declarator (pointers_view pointers) (leaf_view name.entry) (Views.bounds_of (map bound_view bounds))) }
 {
     Ok(Declarator {

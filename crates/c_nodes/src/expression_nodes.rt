@@ -6,8 +6,14 @@ ghost use Rattle.c_parts.specs.Reading.{Fits};
 ghost use Rattle.c_nodes.specs.declared.expression_nodes.ExpressionAction.TheVariants as ActionOf;
 ghost use Rattle.c_nodes.specs.ExpressionNodes.{kinds, node, plain, bracketed, binary, conditional, sizeof, behind_bracket, postfixed};
 
-use c_parts::{Bracketed, Branches, Chain, ExpressionPart, InfixOperator, Operand, Parts, PrefixOperator, SizeofOperand};
-use c_program::{BinaryOperator, Expression, Operation, Postfix, TypeName, UnaryOperator};
+use c_parts::{
+    AssignmentSign, Bracketed, Branches, Chain, ExpressionPart, InfixOperator, Operand, Parts,
+    PrefixOperator, SizeofOperand, StepSign,
+};
+use c_program::{
+    AssignmentOperator, BinaryOperator, Expression, Operation, Postfix, Step, TypeName,
+    UnaryOperator,
+};
 use misra_base::Place;
 use std::alloc::{AllocError, Global};
 
@@ -78,6 +84,10 @@ pub enum ExpressionAction {
     InitialExpression,
     /// No expression.
     NoExpression,
+    /// `=` or an operator with it, which is a token.
+    AssignmentSign(AssignmentOperator),
+    /// `++` or `--`, which is a token.
+    StepSign(Step),
 }
 
 /// What the production makes of the parts.
@@ -122,6 +132,8 @@ pub(crate) fn expression_node(
         ExpressionAction::SomeExpression => Ok(some_expression(parts)),
         ExpressionAction::InitialExpression => Ok(initial_expression(parts)),
         ExpressionAction::NoExpression => Ok(ExpressionPart::OptionalExpression(None)),
+        ExpressionAction::AssignmentSign(operator) => Ok(assignment_sign(parts, operator)),
+        ExpressionAction::StepSign(step) => Ok(step_sign(parts, step)),
     }
 }
 
@@ -130,7 +142,10 @@ fn infix(parts: &mut Parts, operator: BinaryOperator) -> ExpressionPart
     ensures { expression_part_view result ≡ node (ActionOf.Infix operator) (parts_view parts.old) }
 {
     let sign = parts.leaf();
-    ExpressionPart::InfixOperator(InfixOperator { place: sign.place, operator })
+    ExpressionPart::InfixOperator(InfixOperator {
+        place: sign.place,
+        operator,
+    })
 }
 
 fn prefix(parts: &mut Parts, operator: UnaryOperator) -> ExpressionPart
@@ -138,7 +153,10 @@ fn prefix(parts: &mut Parts, operator: UnaryOperator) -> ExpressionPart
     ensures { expression_part_view result ≡ node (ActionOf.Prefix operator) (parts_view parts.old) }
 {
     let sign = parts.leaf();
-    ExpressionPart::PrefixOperator(PrefixOperator { place: sign.place, operator })
+    ExpressionPart::PrefixOperator(PrefixOperator {
+        place: sign.place,
+        operator,
+    })
 }
 
 fn identifier(alloc: Global, parts: &mut Parts) -> Result<ExpressionPart, AllocError>
@@ -164,7 +182,11 @@ fn operation(parts: &mut Parts, operator: BinaryOperator) -> Result<ExpressionPa
     let sign = parts.leaf();
     let right = parts.operand();
     let mut operations = parts.operations();
-    operations.put_front(Operation { place: sign.place, operator, operand: right.expression })?;
+    operations.put_front(Operation {
+        place: sign.place,
+        operator,
+        operand: right.expression,
+    })?;
     Ok(ExpressionPart::Operations(operations))
 }
 
@@ -175,7 +197,11 @@ fn signed_operation(parts: &mut Parts) -> Result<ExpressionPart, AllocError>
     let sign = parts.infix_operator();
     let right = parts.operand();
     let mut operations = parts.operations();
-    operations.put_front(Operation { place: sign.place, operator: sign.operator, operand: right.expression })?;
+    operations.put_front(Operation {
+        place: sign.place,
+        operator: sign.operator,
+        operand: right.expression,
+    })?;
     Ok(ExpressionPart::Operations(operations))
 }
 
@@ -205,7 +231,11 @@ fn branches(parts: &mut Parts) -> ExpressionPart
     let then = parts.operand();
     parts.leaf();
     let otherwise = parts.operand();
-    ExpressionPart::Branches(Some(Branches { question: question.place, then: then.expression, otherwise: otherwise.expression }))
+    ExpressionPart::Branches(Some(Branches {
+        question: question.place,
+        then: then.expression,
+        otherwise: otherwise.expression,
+    }))
 }
 
 fn unary(alloc: Global, parts: &mut Parts) -> Result<ExpressionPart, AllocError>
@@ -214,7 +244,11 @@ fn unary(alloc: Global, parts: &mut Parts) -> Result<ExpressionPart, AllocError>
 {
     let sign = parts.prefix_operator();
     let right = parts.operand();
-    Ok(ExpressionPart::Operand(operand(Expression::Unary { place: sign.place, operator: sign.operator, operand: Box::new(alloc, right.expression)? })))
+    Ok(ExpressionPart::Operand(operand(Expression::Unary {
+        place: sign.place,
+        operator: sign.operator,
+        operand: Box::new(alloc, right.expression)?,
+    })))
 }
 
 fn sizeof_operand(alloc: Global, parts: &mut Parts) -> Result<ExpressionPart, AllocError>
@@ -259,7 +293,10 @@ fn cast(parts: &mut Parts) -> ExpressionPart
     let type_name = parts.type_name();
     parts.leaf();
     let right = parts.operand();
-    ExpressionPart::Bracketed(Bracketed::Cast { type_name, operand: right.expression })
+    ExpressionPart::Bracketed(Bracketed::Cast {
+        type_name,
+        operand: right.expression,
+    })
 }
 
 fn group(alloc: Global, parts: &mut Parts) -> Result<ExpressionPart, AllocError>
@@ -269,7 +306,11 @@ fn group(alloc: Global, parts: &mut Parts) -> Result<ExpressionPart, AllocError>
     let inner = parts.operand();
     parts.leaf();
     let postfixes = parts.postfixes();
-    Ok(ExpressionPart::Bracketed(Bracketed::Operand(postfixed(alloc, bracketed(inner), postfixes)?)))
+    Ok(ExpressionPart::Bracketed(Bracketed::Operand(postfixed(
+        alloc,
+        bracketed(inner),
+        postfixes,
+    )?)))
 }
 
 fn postfixes(parts: &mut Parts) -> Result<ExpressionPart, AllocError>
@@ -297,7 +338,10 @@ fn type_name(parts: &mut Parts) -> ExpressionPart
 {
     let specifiers = parts.specifiers();
     let pointers = parts.pointers();
-    ExpressionPart::TypeName(TypeName { specifiers: specifiers.into_vec(), pointers: pointers.into_vec() })
+    ExpressionPart::TypeName(TypeName {
+        specifiers: specifiers.into_vec(),
+        pointers: pointers.into_vec(),
+    })
 }
 
 fn index(parts: &mut Parts) -> ExpressionPart
@@ -306,7 +350,10 @@ fn index(parts: &mut Parts) -> ExpressionPart
 {
     let bracket = parts.leaf();
     let index = parts.operand();
-    ExpressionPart::Postfix(Postfix::Index { place: bracket.place, index: index.expression })
+    ExpressionPart::Postfix(Postfix::Index {
+        place: bracket.place,
+        index: index.expression,
+    })
 }
 
 fn call(parts: &mut Parts) -> ExpressionPart
@@ -315,7 +362,10 @@ fn call(parts: &mut Parts) -> ExpressionPart
 {
     let bracket = parts.leaf();
     let arguments = parts.arguments();
-    ExpressionPart::Postfix(Postfix::Call { place: bracket.place, arguments: arguments.into_vec() })
+    ExpressionPart::Postfix(Postfix::Call {
+        place: bracket.place,
+        arguments: arguments.into_vec(),
+    })
 }
 
 fn first_argument(parts: &mut Parts) -> Result<ExpressionPart, AllocError>
@@ -345,7 +395,10 @@ fn member(alloc: Global, parts: &mut Parts) -> Result<ExpressionPart, AllocError
 {
     let sign = parts.leaf();
     let member = parts.leaf();
-    Ok(ExpressionPart::Postfix(Postfix::Member { place: sign.place, member: member.word(alloc)? }))
+    Ok(ExpressionPart::Postfix(Postfix::Member {
+        place: sign.place,
+        member: member.word(alloc)?,
+    }))
 }
 
 fn arrow(alloc: Global, parts: &mut Parts) -> Result<ExpressionPart, AllocError>
@@ -354,7 +407,10 @@ fn arrow(alloc: Global, parts: &mut Parts) -> Result<ExpressionPart, AllocError>
 {
     let sign = parts.leaf();
     let member = parts.leaf();
-    Ok(ExpressionPart::Postfix(Postfix::Arrow { place: sign.place, member: member.word(alloc)? }))
+    Ok(ExpressionPart::Postfix(Postfix::Arrow {
+        place: sign.place,
+        member: member.word(alloc)?,
+    }))
 }
 
 fn some_expression(parts: &mut Parts) -> ExpressionPart
@@ -372,6 +428,28 @@ fn initial_expression(parts: &mut Parts) -> ExpressionPart
     parts.leaf();
     let inner = parts.operand();
     ExpressionPart::OptionalExpression(Some(inner.expression))
+}
+
+fn assignment_sign(parts: &mut Parts, operator: AssignmentOperator) -> ExpressionPart
+    requires { Fits (kinds (ActionOf.AssignmentSign operator)) (parts_view parts.now) }
+    ensures { expression_part_view result ≡ node (ActionOf.AssignmentSign operator) (parts_view parts.old) }
+{
+    let sign = parts.leaf();
+    ExpressionPart::AssignmentSign(AssignmentSign {
+        place: sign.place,
+        operator,
+    })
+}
+
+fn step_sign(parts: &mut Parts, step: Step) -> ExpressionPart
+    requires { Fits (kinds (ActionOf.StepSign step)) (parts_view parts.now) }
+    ensures { expression_part_view result ≡ node (ActionOf.StepSign step) (parts_view parts.old) }
+{
+    let sign = parts.leaf();
+    ExpressionPart::StepSign(StepSign {
+        place: sign.place,
+        step,
+    })
 }
 
 /// An expression that is not in brackets.
@@ -395,7 +473,11 @@ fn bracketed(inner: Operand) -> Operand
 }
 
 /// An operand with operations behind it, or itself where there are none.
-fn binary(alloc: Global, first: Operand, operations: Chain<Operation>) -> Result<Operand, AllocError>
+fn binary(
+    alloc: Global,
+    first: Operand,
+    operations: Chain<Operation>,
+) -> Result<Operand, AllocError>
     ensures { IfOk result (λ o. operand_view o ≡ binary (operand_view first) (map operation_view operations)) }
 {
     if operations.is_empty() {
@@ -408,7 +490,11 @@ fn binary(alloc: Global, first: Operand, operations: Chain<Operation>) -> Result
 }
 
 /// A condition with its branches, or itself where there are none.
-fn conditional(alloc: Global, condition: Operand, branches: Option<Branches>) -> Result<Operand, AllocError>
+fn conditional(
+    alloc: Global,
+    condition: Operand,
+    branches: Option<Branches>,
+) -> Result<Operand, AllocError>
     ensures { IfOk result (λ o. operand_view o ≡ conditional (operand_view condition) (option_map branches_view branches)) }
 {
     match branches {
@@ -453,7 +539,11 @@ fn behind_bracket(alloc: Global, place: Place, bracketed: Bracketed) -> Result<O
 }
 
 /// An operand with postfixes behind it, or itself where there are none.
-fn postfixed(alloc: Global, inner: Operand, postfixes: Chain<Postfix>) -> Result<Operand, AllocError>
+fn postfixed(
+    alloc: Global,
+    inner: Operand,
+    postfixes: Chain<Postfix>,
+) -> Result<Operand, AllocError>
     ensures { IfOk result (λ o. operand_view o ≡ postfixed (operand_view inner) (map postfix_view postfixes)) }
 {
     if postfixes.is_empty() {

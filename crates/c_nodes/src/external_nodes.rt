@@ -7,8 +7,12 @@ ghost use Rattle.c_nodes.specs.declared.external_nodes.ExternalAction.TheVariant
 ghost use Rattle.c_nodes.specs.ExternalNodes.{kinds, node, external, named};
 
 use crate::declarator_nodes::all_declarators;
-use c_parts::{Chain, ExternalPart, ExternalRest, FunctionRest, Leaf, NameRest, ParameterName, Parts};
-use c_program::{Bound, Declaration, External, Function, Parameter, Pointer, Specifier, TypeDefinition};
+use c_parts::{
+    Chain, ExternalPart, ExternalRest, FunctionRest, Leaf, NameRest, ParameterName, Parts,
+};
+use c_program::{
+    Bound, Declaration, External, Function, Parameter, Pointer, Specifier, TypeDefinition,
+};
 use std::alloc::{AllocError, Global};
 
 /// What a production of external declarations makes of its parts.
@@ -69,7 +73,9 @@ pub(crate) fn external_node(
         ExternalAction::Unit => Ok(unit(parts)),
         ExternalAction::TypeDefinition => type_definition(alloc, parts),
         ExternalAction::Declared => Ok(declared(parts)),
-        ExternalAction::OnlyTypes => Ok(ExternalPart::ExternalRest(ExternalRest::Declarators(Chain::new(alloc)))),
+        ExternalAction::OnlyTypes => Ok(ExternalPart::ExternalRest(ExternalRest::Declarators(
+            Chain::new(alloc),
+        ))),
         ExternalAction::Named => name_and_rest(alloc, parts),
         ExternalAction::FunctionBehindName => Ok(function_behind_name(parts)),
         ExternalAction::ObjectsBehindName => Ok(objects_behind_name(parts)),
@@ -80,7 +86,10 @@ pub(crate) fn external_node(
         ExternalAction::SomeBody => Ok(some_body(parts)),
         ExternalAction::Parameter => Ok(parameter(parts)),
         ExternalAction::ParameterName => parameter_name(alloc, parts),
-        ExternalAction::NoParameterName => Ok(ExternalPart::ParameterName(ParameterName { name: None, bound: None })),
+        ExternalAction::NoParameterName => Ok(ExternalPart::ParameterName(ParameterName {
+            name: None,
+            bound: None,
+        })),
         ExternalAction::ParameterBound => Ok(parameter_bound(parts)),
         ExternalAction::NoParameterBound => Ok(ExternalPart::OptionalBound(None)),
     }
@@ -112,7 +121,12 @@ fn type_definition(alloc: Global, parts: &mut Parts) -> Result<ExternalPart, All
     let specifiers = parts.specifiers();
     let pointers = parts.pointers();
     let name = parts.leaf();
-    Ok(ExternalPart::External(External::TypeDefinition(TypeDefinition { place: keyword.place, specifiers: specifiers.into_vec(), pointers: pointers.into_vec(), name: name.word(alloc)? })))
+    Ok(ExternalPart::External(External::TypeDefinition(TypeDefinition {
+        place: keyword.place,
+        specifiers: specifiers.into_vec(),
+        pointers: pointers.into_vec(),
+        name: name.word(alloc)?,
+    })))
 }
 
 fn declared(parts: &mut Parts) -> ExternalPart
@@ -189,7 +203,12 @@ fn parameter(parts: &mut Parts) -> ExternalPart
     let specifiers = parts.specifiers();
     let pointers = parts.pointers();
     let name = parts.parameter_name();
-    ExternalPart::Parameter(Parameter { specifiers: specifiers.into_vec(), pointers: pointers.into_vec(), name: name.name, bound: name.bound })
+    ExternalPart::Parameter(Parameter {
+        specifiers: specifiers.into_vec(),
+        pointers: pointers.into_vec(),
+        name: name.name,
+        bound: name.bound,
+    })
 }
 
 fn parameter_name(alloc: Global, parts: &mut Parts) -> Result<ExternalPart, AllocError>
@@ -198,7 +217,10 @@ fn parameter_name(alloc: Global, parts: &mut Parts) -> Result<ExternalPart, Allo
 {
     let name = parts.leaf();
     let bound = parts.optional_bound();
-    Ok(ExternalPart::ParameterName(ParameterName { name: Some(name.word(alloc)?), bound }))
+    Ok(ExternalPart::ParameterName(ParameterName {
+        name: Some(name.word(alloc)?),
+        bound,
+    }))
 }
 
 fn parameter_bound(parts: &mut Parts) -> ExternalPart
@@ -208,7 +230,10 @@ fn parameter_bound(parts: &mut Parts) -> ExternalPart
     parts.leaf();
     let size = parts.optional_expression();
     let close = parts.leaf();
-    ExternalPart::OptionalBound(Some(Bound { size, close: close.place }))
+    ExternalPart::OptionalBound(Some(Bound {
+        size,
+        close: close.place,
+    }))
 }
 
 /// A declaration or a function.
@@ -235,11 +260,18 @@ fn external(specifiers: Chain<Specifier>, behind: ExternalRest) -> External
 }
 
 /// What stands behind the specifiers, where a name does.
-fn named(alloc: Global, pointers: Chain<Pointer>, name: Leaf, behind: NameRest) -> Result<ExternalRest, AllocError>
+fn named(
+    alloc: Global,
+    pointers: Chain<Pointer>,
+    name: Leaf,
+    behind: NameRest,
+) -> Result<ExternalRest, AllocError>
     ensures { IfOk result (λ r. external_rest_view r ≡ named (pointers_view pointers) (leaf_view name.entry) (name_rest_view behind)) }
 {
     match behind {
-        NameRest::Objects(objects) => Ok(ExternalRest::Declarators(all_declarators(alloc, pointers, name, objects)?)),
+        NameRest::Objects(objects) => Ok(ExternalRest::Declarators(all_declarators(
+            alloc, pointers, name, objects,
+        )?)),
         NameRest::Function(rest) => Ok(ExternalRest::Function {
             pointers,
             name: name.word(alloc)?,

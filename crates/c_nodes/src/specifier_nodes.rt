@@ -120,7 +120,10 @@ fn keyword_specifier(parts: &mut Parts, keyword: Keyword) -> DeclarationPart
     ensures { declaration_part_view result ≡ node (ActionOf.Keyword keyword) (parts_view parts.old) }
 {
     let word = parts.leaf();
-    DeclarationPart::Specifier(Specifier::Keyword { place: word.place, keyword })
+    DeclarationPart::Specifier(Specifier::Keyword {
+        place: word.place,
+        keyword,
+    })
 }
 
 fn library_type(alloc: Global, parts: &mut Parts) -> Result<DeclarationPart, AllocError>
@@ -230,7 +233,10 @@ fn untagged_enumeration(parts: &mut Parts) -> DeclarationPart
     ensures { declaration_part_view result ≡ node ActionOf.UntaggedEnumeration (parts_view parts.old) }
 {
     let enumerators = parts.enumerators();
-    DeclarationPart::Enumeration(Enumeration::Declaration { tag: None, enumerators })
+    DeclarationPart::Enumeration(Enumeration::Declaration {
+        tag: None,
+        enumerators,
+    })
 }
 
 fn some_enumerators(parts: &mut Parts) -> DeclarationPart
@@ -249,7 +255,10 @@ fn enumerators_in_braces(alloc: Global, parts: &mut Parts) -> Result<Declaration
     let name = parts.leaf();
     let value = parts.optional_expression();
     let mut enumerators = parts.enumerators();
-    enumerators.put_front(Enumerator { name: name.word(alloc)?, value })?;
+    enumerators.put_front(Enumerator {
+        name: name.word(alloc)?,
+        value,
+    })?;
     Ok(DeclarationPart::Enumerators(enumerators))
 }
 
@@ -277,7 +286,10 @@ fn enumerator(alloc: Global, parts: &mut Parts) -> Result<DeclarationPart, Alloc
     let name = parts.leaf();
     let value = parts.optional_expression();
     let mut enumerators = parts.enumerators();
-    enumerators.put_front(Enumerator { name: name.word(alloc)?, value })?;
+    enumerators.put_front(Enumerator {
+        name: name.word(alloc)?,
+        value,
+    })?;
     Ok(DeclarationPart::Enumerators(enumerators))
 }
 
@@ -336,7 +348,10 @@ fn enum_specifier(place: Place, enumeration: Enumeration) -> Specifier
 }
 
 /// A declaration of members.
-fn member_declaration(specifiers: Chain<Specifier>, declarators: Chain<Declarator>) -> MemberDeclaration
+fn member_declaration(
+    specifiers: Chain<Specifier>,
+    declarators: Chain<Declarator>,
+) -> MemberDeclaration
     ensures { member_view result ≡ record { specifiers = Views.specifiers_of (map specifier_view specifiers); declarators = Views.declarators_of (map declarator_view declarators) } }
 {
     MemberDeclaration {

@@ -78,18 +78,18 @@ pub(crate) fn statement_node(
         StatementAction::Block => Ok(block(parts)),
         StatementAction::Items => items(parts),
         StatementAction::NoItems => Ok(StatementPart::Items(Chain::new(alloc))),
-        StatementAction::DeclarationItem => Ok(declaration_item(parts)),
-        StatementAction::StatementItem => Ok(statement_item(parts)),
-        StatementAction::LeaveItem => Ok(leave_item(parts)),
-        StatementAction::BlockStatement => Ok(block_statement(parts)),
-        StatementAction::IfStatement => Ok(if_statement(parts)),
-        StatementAction::While => Ok(while_statement(parts)),
-        StatementAction::Do => Ok(do_statement(parts)),
-        StatementAction::For => Ok(for_statement(parts)),
-        StatementAction::Switch => Ok(switch_statement(parts)),
-        StatementAction::Continue => Ok(continue_statement(parts)),
-        StatementAction::SimpleStatement => Ok(simple_statement(parts)),
-        StatementAction::Empty => Ok(empty(parts)),
+        StatementAction::DeclarationItem => declaration_item(alloc, parts),
+        StatementAction::StatementItem => statement_item(alloc, parts),
+        StatementAction::LeaveItem => leave_item(alloc, parts),
+        StatementAction::BlockStatement => block_statement(alloc, parts),
+        StatementAction::IfStatement => if_statement(alloc, parts),
+        StatementAction::While => while_statement(alloc, parts),
+        StatementAction::Do => do_statement(alloc, parts),
+        StatementAction::For => for_statement(alloc, parts),
+        StatementAction::Switch => switch_statement(alloc, parts),
+        StatementAction::Continue => continue_statement(alloc, parts),
+        StatementAction::SimpleStatement => simple_statement(alloc, parts),
+        StatementAction::Empty => empty(alloc, parts),
         StatementAction::If => Ok(if_node(parts)),
         StatementAction::Else => Ok(otherwise(parts)),
         StatementAction::NoElse => Ok(StatementPart::Otherwise(None)),
@@ -110,7 +110,10 @@ fn block(parts: &mut Parts) -> StatementPart
 {
     let brace = parts.leaf();
     let items = parts.items();
-    StatementPart::Block(Block { place: brace.place, items: items.into_vec() })
+    StatementPart::Block(Block {
+        place: brace.place,
+        items: items.into_vec(),
+    })
 }
 
 fn items(parts: &mut Parts) -> Result<StatementPart, AllocError>
@@ -123,74 +126,94 @@ fn items(parts: &mut Parts) -> Result<StatementPart, AllocError>
     Ok(StatementPart::Items(items))
 }
 
-fn declaration_item(parts: &mut Parts) -> StatementPart
+fn declaration_item(alloc: Global, parts: &mut Parts) -> Result<StatementPart, AllocError>
     requires { Fits (kinds ActionOf.DeclarationItem) (parts_view parts.now) }
-    ensures { statement_part_view result ≡ node ActionOf.DeclarationItem (parts_view parts.old) }
+    ensures { IfOk result (λ p. statement_part_view p ≡ node ActionOf.DeclarationItem (parts_view parts.old)) }
 {
     let specifiers = parts.specifiers();
     let declarators = parts.init_declarators();
-    StatementPart::Item(Item::Declaration(Declaration { specifiers: specifiers.into_vec(), declarators: declarators.into_vec() }))
+    Ok(StatementPart::Item(Box::new(
+        alloc,
+        Item::Declaration(Declaration {
+            specifiers: specifiers.into_vec(),
+            declarators: declarators.into_vec(),
+        }),
+    )?))
 }
 
-fn statement_item(parts: &mut Parts) -> StatementPart
+fn statement_item(alloc: Global, parts: &mut Parts) -> Result<StatementPart, AllocError>
     requires { Fits (kinds ActionOf.StatementItem) (parts_view parts.now) }
-    ensures { statement_part_view result ≡ node ActionOf.StatementItem (parts_view parts.old) }
+    ensures { IfOk result (λ p. statement_part_view p ≡ node ActionOf.StatementItem (parts_view parts.old)) }
 {
     let statement = parts.statement();
-    StatementPart::Item(Item::Statement(statement))
+    Ok(StatementPart::Item(Box::new(alloc, Item::Statement(statement))?))
 }
 
-fn leave_item(parts: &mut Parts) -> StatementPart
+fn leave_item(alloc: Global, parts: &mut Parts) -> Result<StatementPart, AllocError>
     requires { Fits (kinds ActionOf.LeaveItem) (parts_view parts.now) }
-    ensures { statement_part_view result ≡ node ActionOf.LeaveItem (parts_view parts.old) }
+    ensures { IfOk result (λ p. statement_part_view p ≡ node ActionOf.LeaveItem (parts_view parts.old)) }
 {
     let leave = parts.leave();
-    StatementPart::Item(Item::Leave(leave))
+    Ok(StatementPart::Item(Box::new(alloc, Item::Leave(leave))?))
 }
 
-fn block_statement(parts: &mut Parts) -> StatementPart
+fn block_statement(alloc: Global, parts: &mut Parts) -> Result<StatementPart, AllocError>
     requires { Fits (kinds ActionOf.BlockStatement) (parts_view parts.now) }
-    ensures { statement_part_view result ≡ node ActionOf.BlockStatement (parts_view parts.old) }
+    ensures { IfOk result (λ p. statement_part_view p ≡ node ActionOf.BlockStatement (parts_view parts.old)) }
 {
     let block = parts.block();
-    StatementPart::Statement(Statement::Block(block))
+    Ok(StatementPart::Statement(Box::new(alloc, Statement::Block(block))?))
 }
 
-fn if_statement(parts: &mut Parts) -> StatementPart
+fn if_statement(alloc: Global, parts: &mut Parts) -> Result<StatementPart, AllocError>
     requires { Fits (kinds ActionOf.IfStatement) (parts_view parts.now) }
-    ensures { statement_part_view result ≡ node ActionOf.IfStatement (parts_view parts.old) }
+    ensures { IfOk result (λ p. statement_part_view p ≡ node ActionOf.IfStatement (parts_view parts.old)) }
 {
     let inner = parts.if_statement();
-    StatementPart::Statement(Statement::If(inner))
+    Ok(StatementPart::Statement(Box::new(alloc, Statement::If(inner))?))
 }
 
-fn while_statement(parts: &mut Parts) -> StatementPart
+fn while_statement(alloc: Global, parts: &mut Parts) -> Result<StatementPart, AllocError>
     requires { Fits (kinds ActionOf.While) (parts_view parts.now) }
-    ensures { statement_part_view result ≡ node ActionOf.While (parts_view parts.old) }
+    ensures { IfOk result (λ p. statement_part_view p ≡ node ActionOf.While (parts_view parts.old)) }
 {
     let keyword = parts.leaf();
     parts.leaf();
     let condition = parts.operand();
     parts.leaf();
     let body = parts.block();
-    StatementPart::Statement(Statement::While { place: keyword.place, condition: condition.expression, body })
+    Ok(StatementPart::Statement(Box::new(
+        alloc,
+        Statement::While {
+            place: keyword.place,
+            condition: condition.expression,
+            body,
+        },
+    )?))
 }
 
-fn do_statement(parts: &mut Parts) -> StatementPart
+fn do_statement(alloc: Global, parts: &mut Parts) -> Result<StatementPart, AllocError>
     requires { Fits (kinds ActionOf.Do) (parts_view parts.now) }
-    ensures { statement_part_view result ≡ node ActionOf.Do (parts_view parts.old) }
+    ensures { IfOk result (λ p. statement_part_view p ≡ node ActionOf.Do (parts_view parts.old)) }
 {
     parts.leaf();
     let body = parts.block();
     let keyword = parts.leaf();
     parts.leaf();
     let condition = parts.operand();
-    StatementPart::Statement(Statement::DoWhile { body, place: keyword.place, condition: condition.expression })
+    Ok(StatementPart::Statement(Box::new(
+        alloc,
+        Statement::DoWhile {
+            body,
+            place: keyword.place,
+            condition: condition.expression,
+        },
+    )?))
 }
 
-fn for_statement(parts: &mut Parts) -> StatementPart
+fn for_statement(alloc: Global, parts: &mut Parts) -> Result<StatementPart, AllocError>
     requires { Fits (kinds ActionOf.For) (parts_view parts.now) }
-    ensures { statement_part_view result ≡ node ActionOf.For (parts_view parts.old) }
+    ensures { IfOk result (λ p. statement_part_view p ≡ node ActionOf.For (parts_view parts.old)) }
 {
     let keyword = parts.leaf();
     parts.leaf();
@@ -201,12 +224,21 @@ fn for_statement(parts: &mut Parts) -> StatementPart
     let step = parts.optional_simple();
     parts.leaf();
     let body = parts.block();
-    StatementPart::Statement(Statement::For { place: keyword.place, start, condition, step, body })
+    Ok(StatementPart::Statement(Box::new(
+        alloc,
+        Statement::For {
+            place: keyword.place,
+            start,
+            condition,
+            step,
+            body,
+        },
+    )?))
 }
 
-fn switch_statement(parts: &mut Parts) -> StatementPart
+fn switch_statement(alloc: Global, parts: &mut Parts) -> Result<StatementPart, AllocError>
     requires { Fits (kinds ActionOf.Switch) (parts_view parts.now) }
-    ensures { statement_part_view result ≡ node ActionOf.Switch (parts_view parts.old) }
+    ensures { IfOk result (λ p. statement_part_view p ≡ node ActionOf.Switch (parts_view parts.old)) }
 {
     let keyword = parts.leaf();
     parts.leaf();
@@ -215,31 +247,49 @@ fn switch_statement(parts: &mut Parts) -> StatementPart
     parts.leaf();
     let clauses = parts.clauses();
     let default = parts.optional_body();
-    StatementPart::Statement(Statement::Switch { place: keyword.place, subject: subject.expression, clauses: clauses.into_vec(), default })
+    Ok(StatementPart::Statement(Box::new(
+        alloc,
+        Statement::Switch {
+            place: keyword.place,
+            subject: subject.expression,
+            clauses: clauses.into_vec(),
+            default,
+        },
+    )?))
 }
 
-fn continue_statement(parts: &mut Parts) -> StatementPart
+fn continue_statement(alloc: Global, parts: &mut Parts) -> Result<StatementPart, AllocError>
     requires { Fits (kinds ActionOf.Continue) (parts_view parts.now) }
-    ensures { statement_part_view result ≡ node ActionOf.Continue (parts_view parts.old) }
+    ensures { IfOk result (λ p. statement_part_view p ≡ node ActionOf.Continue (parts_view parts.old)) }
 {
     let keyword = parts.leaf();
-    StatementPart::Statement(Statement::Continue { place: keyword.place })
+    Ok(StatementPart::Statement(Box::new(
+        alloc,
+        Statement::Continue {
+            place: keyword.place,
+        },
+    )?))
 }
 
-fn simple_statement(parts: &mut Parts) -> StatementPart
+fn simple_statement(alloc: Global, parts: &mut Parts) -> Result<StatementPart, AllocError>
     requires { Fits (kinds ActionOf.SimpleStatement) (parts_view parts.now) }
-    ensures { statement_part_view result ≡ node ActionOf.SimpleStatement (parts_view parts.old) }
+    ensures { IfOk result (λ p. statement_part_view p ≡ node ActionOf.SimpleStatement (parts_view parts.old)) }
 {
     let simple = parts.simple();
-    StatementPart::Statement(Statement::Simple(simple))
+    Ok(StatementPart::Statement(Box::new(alloc, Statement::Simple(simple))?))
 }
 
-fn empty(parts: &mut Parts) -> StatementPart
+fn empty(alloc: Global, parts: &mut Parts) -> Result<StatementPart, AllocError>
     requires { Fits (kinds ActionOf.Empty) (parts_view parts.now) }
-    ensures { statement_part_view result ≡ node ActionOf.Empty (parts_view parts.old) }
+    ensures { IfOk result (λ p. statement_part_view p ≡ node ActionOf.Empty (parts_view parts.old)) }
 {
     let semicolon = parts.leaf();
-    StatementPart::Statement(Statement::Empty { place: semicolon.place })
+    Ok(StatementPart::Statement(Box::new(
+        alloc,
+        Statement::Empty {
+            place: semicolon.place,
+        },
+    )?))
 }
 
 fn if_node(parts: &mut Parts) -> StatementPart
@@ -252,7 +302,12 @@ fn if_node(parts: &mut Parts) -> StatementPart
     parts.leaf();
     let then = parts.block();
     let otherwise = parts.otherwise();
-    StatementPart::IfStatement(If { place: keyword.place, condition: condition.expression, then, otherwise })
+    StatementPart::IfStatement(If {
+        place: keyword.place,
+        condition: condition.expression,
+        then,
+        otherwise,
+    })
 }
 
 fn otherwise(parts: &mut Parts) -> StatementPart
@@ -297,7 +352,13 @@ fn start_declaration(alloc: Global, parts: &mut Parts) -> Result<StatementPart, 
     let name = parts.leaf();
     let sign = parts.leaf();
     let value = parts.operand();
-    Ok(StatementPart::ForStart(ForStart::Declaration { specifiers: specifiers.into_vec(), pointers: pointers.into_vec(), name: name.word(alloc)?, place: sign.place, value: value.expression }))
+    Ok(StatementPart::ForStart(ForStart::Declaration {
+        specifiers: specifiers.into_vec(),
+        pointers: pointers.into_vec(),
+        name: name.word(alloc)?,
+        place: sign.place,
+        value: value.expression,
+    }))
 }
 
 fn start_simple(parts: &mut Parts) -> StatementPart

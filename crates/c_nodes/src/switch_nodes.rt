@@ -6,8 +6,8 @@ ghost use Rattle.c_parts.specs.Reading.{Fits};
 ghost use Rattle.c_nodes.specs.declared.switch_nodes.SwitchAction.TheVariants as ActionOf;
 ghost use Rattle.c_nodes.specs.SwitchNodes.{kinds, node, simple};
 
-use c_parts::{AssignmentSign, Chain, Operand, Parts, SimpleRest, StatementPart, StepSign};
-use c_program::{AssignmentOperator, Body, CaseLabel, Clause, Leave, Simple, Step};
+use c_parts::{Chain, Operand, Parts, SimpleRest, StatementPart};
+use c_program::{Body, CaseLabel, Clause, Leave, Simple, Step};
 use std::alloc::{AllocError, Global};
 
 /// What a production of clauses of a `switch`, jumps, assignments and steps makes of its parts.
@@ -47,10 +47,6 @@ pub enum SwitchAction {
     PostfixStep(Step),
     /// An expression alone.
     NoSimpleRest,
-    /// `=` or an operator with it, which is a token.
-    AssignmentSign(AssignmentOperator),
-    /// `++` or `--`, which is a token.
-    StepSign(Step),
 }
 
 /// What the production makes of the parts.
@@ -80,8 +76,6 @@ pub(crate) fn switch_node(
         SwitchAction::Assignment => Ok(assignment(parts)),
         SwitchAction::PostfixStep(step) => Ok(postfix_step(parts, step)),
         SwitchAction::NoSimpleRest => Ok(StatementPart::SimpleRest(None)),
-        SwitchAction::AssignmentSign(operator) => Ok(assignment_sign(parts, operator)),
-        SwitchAction::StepSign(step) => Ok(step_sign(parts, step)),
     }
 }
 
@@ -114,7 +108,10 @@ fn one_clause(parts: &mut Parts) -> Result<StatementPart, AllocError>
     parts.leaf();
     let mut labels = parts.case_labels();
     let body = parts.body();
-    labels.put_front(CaseLabel { place: keyword.place, value: value.expression })?;
+    labels.put_front(CaseLabel {
+        place: keyword.place,
+        value: value.expression,
+    })?;
     Ok(StatementPart::Clause(clause(labels, body)))
 }
 
@@ -126,7 +123,10 @@ fn case_labels(parts: &mut Parts) -> Result<StatementPart, AllocError>
     let value = parts.operand();
     parts.leaf();
     let mut labels = parts.case_labels();
-    labels.put_front(CaseLabel { place: keyword.place, value: value.expression })?;
+    labels.put_front(CaseLabel {
+        place: keyword.place,
+        value: value.expression,
+    })?;
     Ok(StatementPart::CaseLabels(labels))
 }
 
@@ -136,7 +136,10 @@ fn body(parts: &mut Parts) -> StatementPart
 {
     let statements = parts.statements();
     let leave = parts.leave();
-    StatementPart::Body(Body { statements: statements.into_vec(), leave })
+    StatementPart::Body(Body {
+        statements: statements.into_vec(),
+        leave,
+    })
 }
 
 fn statements(parts: &mut Parts) -> Result<StatementPart, AllocError>
@@ -154,7 +157,9 @@ fn break_leave(parts: &mut Parts) -> StatementPart
     ensures { statement_part_view result ≡ node ActionOf.Break (parts_view parts.old) }
 {
     let keyword = parts.leaf();
-    StatementPart::Leave(Leave::Break { place: keyword.place })
+    StatementPart::Leave(Leave::Break {
+        place: keyword.place,
+    })
 }
 
 fn return_leave(parts: &mut Parts) -> StatementPart
@@ -163,7 +168,10 @@ fn return_leave(parts: &mut Parts) -> StatementPart
 {
     let keyword = parts.leaf();
     let value = parts.optional_expression();
-    StatementPart::Leave(Leave::Return { place: keyword.place, value })
+    StatementPart::Leave(Leave::Return {
+        place: keyword.place,
+        value,
+    })
 }
 
 fn prefix_step(parts: &mut Parts) -> StatementPart
@@ -172,7 +180,11 @@ fn prefix_step(parts: &mut Parts) -> StatementPart
 {
     let sign = parts.step_sign();
     let right = parts.operand();
-    StatementPart::Simple(Simple::Prefix { place: sign.place, step: sign.step, operand: right.expression })
+    StatementPart::Simple(Simple::Prefix {
+        place: sign.place,
+        step: sign.step,
+        operand: right.expression,
+    })
 }
 
 fn simple_expression(parts: &mut Parts) -> StatementPart
@@ -190,7 +202,11 @@ fn assignment(parts: &mut Parts) -> StatementPart
 {
     let sign = parts.assignment_sign();
     let value = parts.operand();
-    StatementPart::SimpleRest(Some(SimpleRest::Assignment { place: sign.place, operator: sign.operator, value: value.expression }))
+    StatementPart::SimpleRest(Some(SimpleRest::Assignment {
+        place: sign.place,
+        operator: sign.operator,
+        value: value.expression,
+    }))
 }
 
 fn postfix_step(parts: &mut Parts, step: Step) -> StatementPart
@@ -198,23 +214,10 @@ fn postfix_step(parts: &mut Parts, step: Step) -> StatementPart
     ensures { statement_part_view result ≡ node (ActionOf.PostfixStep step) (parts_view parts.old) }
 {
     let sign = parts.leaf();
-    StatementPart::SimpleRest(Some(SimpleRest::Step { place: sign.place, step }))
-}
-
-fn assignment_sign(parts: &mut Parts, operator: AssignmentOperator) -> StatementPart
-    requires { Fits (kinds (ActionOf.AssignmentSign operator)) (parts_view parts.now) }
-    ensures { statement_part_view result ≡ node (ActionOf.AssignmentSign operator) (parts_view parts.old) }
-{
-    let sign = parts.leaf();
-    StatementPart::AssignmentSign(AssignmentSign { place: sign.place, operator })
-}
-
-fn step_sign(parts: &mut Parts, step: Step) -> StatementPart
-    requires { Fits (kinds (ActionOf.StepSign step)) (parts_view parts.now) }
-    ensures { statement_part_view result ≡ node (ActionOf.StepSign step) (parts_view parts.old) }
-{
-    let sign = parts.leaf();
-    StatementPart::StepSign(StepSign { place: sign.place, step })
+    StatementPart::SimpleRest(Some(SimpleRest::Step {
+        place: sign.place,
+        step,
+    }))
 }
 
 /// A clause of these labels.
@@ -233,11 +236,13 @@ fn simple(left: Operand, behind: Option<SimpleRest>) -> Simple
 {
     match behind {
         None => Simple::Expression(left.expression),
-        Some(SimpleRest::Assignment {
-            place,
-            operator,
-            value,
-        }) => Simple::Assignment {
+        Some(
+            SimpleRest::Assignment {
+                place,
+                operator,
+                value,
+            },
+        ) => Simple::Assignment {
             target: left.expression,
             place,
             operator,

@@ -13,6 +13,8 @@ pub data Kind : Type 0 where
   branches : Kind
   sizeof_operand : Kind
   bracketed : Kind
+  assignment_sign : Kind
+  step_sign : Kind
   qualifiers : Kind
   pointers : Kind
   specifier : Kind
@@ -54,8 +56,6 @@ pub data Kind : Type 0 where
   simple : Kind
   optional_simple : Kind
   simple_rest : Kind
-  assignment_sign : Kind
-  step_sign : Kind
   case_labels : Kind
   clause : Kind
   clauses : Kind

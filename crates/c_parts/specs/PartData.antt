@@ -11,8 +11,8 @@ use Rattle.c_program.specs.declared.statement.AssignmentOperator.{AssignmentOper
 use Rattle.c_program.specs.declared.statement.Step.{Step}
 use Rattle.c_parts.specs.declared.expression_part.InfixOperator.{InfixOperator}
 use Rattle.c_parts.specs.declared.expression_part.PrefixOperator.{PrefixOperator}
-use Rattle.c_parts.specs.declared.statement_part.AssignmentSign.{AssignmentSign}
-use Rattle.c_parts.specs.declared.statement_part.StepSign.{StepSign}
+use Rattle.c_parts.specs.declared.expression_part.AssignmentSign.{AssignmentSign}
+use Rattle.c_parts.specs.declared.expression_part.StepSign.{StepSign}
 
 pub record OperandData : Type 0 where
   pub expression : Expressions.ExpressionData
@@ -77,6 +77,8 @@ pub data ExpressionPart : Type 0 where
   branches : Option BranchesData → ExpressionPart
   sizeof_operand : SizeofOperandData → ExpressionPart
   bracketed : BracketedData → ExpressionPart
+  assignment_sign : AssignmentSign → ExpressionPart
+  step_sign : StepSign → ExpressionPart
 
 pub data DeclarationPart : Type 0 where
   qualifiers : List Qualifier → DeclarationPart
@@ -124,8 +126,6 @@ pub data StatementPart : Type 0 where
   simple : Statements.SimpleData → StatementPart
   optional_simple : Option Statements.SimpleData → StatementPart
   simple_rest : Option SimpleRestData → StatementPart
-  assignment_sign : AssignmentSign → StatementPart
-  step_sign : StepSign → StatementPart
   case_labels : List Statements.CaseLabelData → StatementPart
   clause : OneClause → StatementPart
   clauses : List OneClause → StatementPart

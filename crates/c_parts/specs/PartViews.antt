@@ -101,6 +101,8 @@ expression_part_view (ExpressionPartOf.TypeName x) = PartData.type_name (type_na
 expression_part_view (ExpressionPartOf.Branches x) = PartData.branches (option_map branches_view x)
 expression_part_view (ExpressionPartOf.SizeofOperand x) = PartData.sizeof_operand (sizeof_operand_view x)
 expression_part_view (ExpressionPartOf.Bracketed x) = PartData.bracketed (bracketed_view x)
+expression_part_view (ExpressionPartOf.AssignmentSign x) = PartData.assignment_sign x
+expression_part_view (ExpressionPartOf.StepSign x) = PartData.step_sign x
 
 abbrev pub declaration_part_view : DeclarationPart → PartData.DeclarationPart
 declaration_part_view (DeclarationPartOf.Qualifiers x) = PartData.qualifiers x
@@ -136,9 +138,9 @@ external_part_view (ExternalPartOf.Externals x) = PartData.externals (map extern
 
 abbrev pub statement_part_view : StatementPart → PartData.StatementPart
 statement_part_view (StatementPartOf.Block x) = PartData.block (block_view x)
-statement_part_view (StatementPartOf.Item x) = PartData.item (item_view x)
+statement_part_view (StatementPartOf.Item x) = PartData.item (item_view x.value)
 statement_part_view (StatementPartOf.Items x) = PartData.items (map item_view x)
-statement_part_view (StatementPartOf.Statement x) = PartData.statement (statement_view x)
+statement_part_view (StatementPartOf.Statement x) = PartData.statement (statement_view x.value)
 statement_part_view (StatementPartOf.Statements x) = PartData.statements (map statement_view x)
 statement_part_view (StatementPartOf.IfStatement x) = PartData.if_statement (if_view x)
 statement_part_view (StatementPartOf.Otherwise x) = PartData.otherwise (option_map otherwise_view x)
@@ -148,8 +150,6 @@ statement_part_view (StatementPartOf.OptionalForStart x) = PartData.optional_for
 statement_part_view (StatementPartOf.Simple x) = PartData.simple (simple_view x)
 statement_part_view (StatementPartOf.OptionalSimple x) = PartData.optional_simple (option_map simple_view x)
 statement_part_view (StatementPartOf.SimpleRest x) = PartData.simple_rest (option_map simple_rest_view x)
-statement_part_view (StatementPartOf.AssignmentSign x) = PartData.assignment_sign x
-statement_part_view (StatementPartOf.StepSign x) = PartData.step_sign x
 statement_part_view (StatementPartOf.CaseLabels x) = PartData.case_labels (map case_label_view x)
 statement_part_view (StatementPartOf.Clause x) = PartData.clause (clause_view x)
 statement_part_view (StatementPartOf.Clauses x) = PartData.clauses (map clause_view x)

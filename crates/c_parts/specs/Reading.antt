@@ -13,8 +13,8 @@ use Rattle.c_program.specs.Views.{OneOperation, OneMember, OneEnumerator}
 use Rattle.c_program.specs.StatementViews.{OneClause}
 use Rattle.c_parts.specs.declared.expression_part.InfixOperator.{InfixOperator}
 use Rattle.c_parts.specs.declared.expression_part.PrefixOperator.{PrefixOperator}
-use Rattle.c_parts.specs.declared.statement_part.AssignmentSign.{AssignmentSign}
-use Rattle.c_parts.specs.declared.statement_part.StepSign.{StepSign}
+use Rattle.c_parts.specs.declared.expression_part.AssignmentSign.{AssignmentSign}
+use Rattle.c_parts.specs.declared.expression_part.StepSign.{StepSign}
 use Rattle.c_parts.specs.Kinds
 use Rattle.c_parts.specs.PartData
 
@@ -31,6 +31,8 @@ expression_kind (PartData.type_name x) = Kinds.type_name
 expression_kind (PartData.branches x) = Kinds.branches
 expression_kind (PartData.sizeof_operand x) = Kinds.sizeof_operand
 expression_kind (PartData.bracketed x) = Kinds.bracketed
+expression_kind (PartData.assignment_sign x) = Kinds.assignment_sign
+expression_kind (PartData.step_sign x) = Kinds.step_sign
 
 abbrev pub declaration_kind : PartData.DeclarationPart → Kinds.Kind
 declaration_kind (PartData.qualifiers x) = Kinds.qualifiers
@@ -78,8 +80,6 @@ statement_kind (PartData.optional_for_start x) = Kinds.optional_for_start
 statement_kind (PartData.simple x) = Kinds.simple
 statement_kind (PartData.optional_simple x) = Kinds.optional_simple
 statement_kind (PartData.simple_rest x) = Kinds.simple_rest
-statement_kind (PartData.assignment_sign x) = Kinds.assignment_sign
-statement_kind (PartData.step_sign x) = Kinds.step_sign
 statement_kind (PartData.case_labels x) = Kinds.case_labels
 statement_kind (PartData.clause x) = Kinds.clause
 statement_kind (PartData.clauses x) = Kinds.clauses
@@ -193,6 +193,14 @@ sizeof_operand_of p = PartData.sizeof_of_expression no_expression
 abbrev pub bracketed_of : PartData.PartData → PartData.BracketedData
 bracketed_of (PartData.expression_part (PartData.bracketed x)) = x
 bracketed_of p = PartData.bracketed_operand no_operand
+
+abbrev pub assignment_sign_of : PartData.PartData → AssignmentSign
+assignment_sign_of (PartData.expression_part (PartData.assignment_sign x)) = x
+assignment_sign_of p = record { place = no_place; operator = Assign }
+
+abbrev pub step_sign_of : PartData.PartData → StepSign
+step_sign_of (PartData.expression_part (PartData.step_sign x)) = x
+step_sign_of p = record { place = no_place; step = Increment }
 
 abbrev pub qualifiers_of : PartData.PartData → List Qualifier
 qualifiers_of (PartData.declaration_part (PartData.qualifiers x)) = x
@@ -357,14 +365,6 @@ optional_simple_of p = None
 abbrev pub simple_rest_of : PartData.PartData → Option PartData.SimpleRestData
 simple_rest_of (PartData.statement_part (PartData.simple_rest x)) = x
 simple_rest_of p = None
-
-abbrev pub assignment_sign_of : PartData.PartData → AssignmentSign
-assignment_sign_of (PartData.statement_part (PartData.assignment_sign x)) = x
-assignment_sign_of p = record { place = no_place; operator = Assign }
-
-abbrev pub step_sign_of : PartData.PartData → StepSign
-step_sign_of (PartData.statement_part (PartData.step_sign x)) = x
-step_sign_of p = record { place = no_place; step = Increment }
 
 abbrev pub case_labels_of : PartData.PartData → List Statements.CaseLabelData
 case_labels_of (PartData.statement_part (PartData.case_labels x)) = x

@@ -1,7 +1,7 @@
 use crate::chain::Chain;
 use c_program::{
-    Bound, Declarator, Enumerator, InitDeclarator, Initialization, Initializer, MemberDeclaration, Pointer,
-    Qualifier, Specifier, Word,
+    Bound, Declarator, Enumerator, InitDeclarator, Initialization, Initializer, MemberDeclaration,
+    Pointer, Qualifier, Specifier, Word,
 };
 
 /// What stands behind `struct` (C11 6.7.2.1).

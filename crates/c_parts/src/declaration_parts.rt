@@ -10,7 +10,10 @@ use crate::chain::Chain;
 use crate::declaration_part::{DeclarationPart, Enumeration, Objects, Structure};
 use crate::part::Part;
 use crate::parts::Parts;
-use c_program::{Bound, Declarator, Enumerator, InitDeclarator, Initialization, Initializer, MemberDeclaration, Pointer, Qualifier, Specifier};
+use c_program::{
+    Bound, Declarator, Enumerator, InitDeclarator, Initialization, Initializer, MemberDeclaration,
+    Pointer, Qualifier, Specifier,
+};
 
 impl<'a> Parts<'a> {
     /// Takes the first part: the qualifiers of a pointer.

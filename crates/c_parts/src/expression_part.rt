@@ -1,5 +1,8 @@
 use crate::chain::Chain;
-use c_program::{BinaryOperator, Expression, Operation, Postfix, TypeName, UnaryOperator};
+use c_program::{
+    AssignmentOperator, BinaryOperator, Expression, Operation, Postfix, Step, TypeName,
+    UnaryOperator,
+};
 use misra_base::Place;
 
 /// An expression, and whether it is all in brackets.
@@ -51,6 +54,20 @@ pub enum Bracketed {
     Operand(Operand),
 }
 
+/// `=` or an operator with it, at its place.
+#[derive(Clone, Copy)]
+pub struct AssignmentSign {
+    pub place: Place,
+    pub operator: AssignmentOperator,
+}
+
+/// `++` or `--`, at its place.
+#[derive(Clone, Copy)]
+pub struct StepSign {
+    pub place: Place,
+    pub step: Step,
+}
+
 /// A part that is an expression or stands in one (C11 6.5).
 #[derive(Drop)]
 pub enum ExpressionPart {
@@ -78,4 +95,8 @@ pub enum ExpressionPart {
     SizeofOperand(SizeofOperand),
     /// What a bracket begins.
     Bracketed(Bracketed),
+    /// `=` or an operator with it.
+    AssignmentSign(AssignmentSign),
+    /// `++` or `--`.
+    StepSign(StepSign),
 }

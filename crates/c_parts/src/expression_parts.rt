@@ -3,10 +3,13 @@ ghost use Rattle.std.specs.Option.{option_map};
 ghost use Rattle.c_program.specs.Views.{expression_view, operation_view, postfix_view, type_name_view};
 ghost use Rattle.c_parts.specs.Kinds;
 ghost use Rattle.c_parts.specs.PartViews.{bracketed_view, branches_view, operand_view, sizeof_operand_view, parts_view};
-ghost use Rattle.c_parts.specs.Reading.{first, rest, kind_of, operand_of, optional_expression_of, infix_operator_of, operations_of, prefix_operator_of, postfix_of, postfixes_of, arguments_of, type_name_of, branches_of, sizeof_operand_of, bracketed_of};
+ghost use Rattle.c_parts.specs.Reading.{first, rest, kind_of, operand_of, optional_expression_of, infix_operator_of, operations_of, prefix_operator_of, postfix_of, postfixes_of, arguments_of, type_name_of, branches_of, sizeof_operand_of, bracketed_of, assignment_sign_of, step_sign_of};
 
 use crate::chain::Chain;
-use crate::expression_part::{Bracketed, Branches, ExpressionPart, InfixOperator, Operand, PrefixOperator, SizeofOperand};
+use crate::expression_part::{
+    AssignmentSign, Bracketed, Branches, ExpressionPart, InfixOperator, Operand, PrefixOperator,
+    SizeofOperand, StepSign,
+};
 use crate::part::Part;
 use crate::parts::Parts;
 use c_program::{Expression, Operation, Postfix, TypeName};
@@ -152,6 +155,30 @@ impl<'a> Parts<'a> {
     {
         match self.next() {
             Part::Expression(ExpressionPart::Bracketed(part)) => part,
+            _ => unreachable!(),
+        }
+    }
+
+    /// Takes the first part: `=` or an operator with it.
+    pub fn assignment_sign(&mut self) -> AssignmentSign
+        requires { kind_of (first (parts_view self.now)) ≡ Kinds.assignment_sign }
+        ensures result { result ≡ assignment_sign_of (first (parts_view self.old)) }
+        ensures rest { parts_view self.new ≡ rest (parts_view self.old) }
+    {
+        match self.next() {
+            Part::Expression(ExpressionPart::AssignmentSign(part)) => part,
+            _ => unreachable!(),
+        }
+    }
+
+    /// Takes the first part: `++` or `--`.
+    pub fn step_sign(&mut self) -> StepSign
+        requires { kind_of (first (parts_view self.now)) ≡ Kinds.step_sign }
+        ensures result { result ≡ step_sign_of (first (parts_view self.old)) }
+        ensures rest { parts_view self.new ≡ rest (parts_view self.old) }
+    {
+        match self.next() {
+            Part::Expression(ExpressionPart::StepSign(part)) => part,
             _ => unreachable!(),
         }
     }

@@ -17,10 +17,11 @@ mod statement_parts;
 pub use chain::Chain;
 pub use declaration_part::{DeclarationPart, Enumeration, Objects, Structure};
 pub use expression_part::{
-    Bracketed, Branches, ExpressionPart, InfixOperator, Operand, PrefixOperator, SizeofOperand,
+    AssignmentSign, Bracketed, Branches, ExpressionPart, InfixOperator, Operand, PrefixOperator,
+    SizeofOperand, StepSign,
 };
 pub use external_part::{ExternalPart, ExternalRest, FunctionRest, NameRest, ParameterName};
 pub use leaf::Leaf;
 pub use part::Part;
 pub use parts::Parts;
-pub use statement_part::{AssignmentSign, SimpleRest, StatementPart, StepSign};
+pub use statement_part::{SimpleRest, StatementPart};

@@ -1,7 +1,7 @@
 use crate::chain::Chain;
 use c_program::{
-    AssignmentOperator, Block, Body, CaseLabel, Clause, Expression, ForStart, If, Item, Leave, Otherwise,
-    Simple, Statement, Step,
+    AssignmentOperator, Block, Body, CaseLabel, Clause, Expression, ForStart, If, Item, Leave,
+    Otherwise, Simple, Statement, Step,
 };
 use misra_base::Place;
 
@@ -19,31 +19,17 @@ pub enum SimpleRest {
     },
 }
 
-/// `=` or an operator with it, at its place.
-#[derive(Clone, Copy)]
-pub struct AssignmentSign {
-    pub place: Place,
-    pub operator: AssignmentOperator,
-}
-
-/// `++` or `--`, at its place.
-#[derive(Clone, Copy)]
-pub struct StepSign {
-    pub place: Place,
-    pub step: Step,
-}
-
 /// A part that is a statement or stands in one (C11 6.8).
 #[derive(Drop)]
 pub enum StatementPart {
     /// A compound statement.
     Block(Block),
     /// What stands in a block.
-    Item(Item),
+    Item(Box<Item>),
     /// All that stands in a block.
     Items(Chain<Item>),
     /// A statement.
-    Statement(Statement),
+    Statement(Box<Statement>),
     /// Statements.
     Statements(Chain<Statement>),
     /// An `if` statement.
@@ -62,10 +48,6 @@ pub enum StatementPart {
     OptionalSimple(Option<Simple>),
     /// What makes an expression an assignment or a step, or nothing.
     SimpleRest(Option<SimpleRest>),
-    /// `=` or an operator with it.
-    AssignmentSign(AssignmentSign),
-    /// `++` or `--`.
-    StepSign(StepSign),
     /// The labels of a clause.
     CaseLabels(Chain<CaseLabel>),
     /// A clause of a `switch`.

@@ -3,13 +3,15 @@ ghost use Rattle.std.specs.Option.{option_map};
 ghost use Rattle.c_program.specs.StatementViews.{block_view, body_view, case_label_view, clause_view, for_start_view, if_view, item_view, leave_view, otherwise_view, simple_view, statement_view};
 ghost use Rattle.c_parts.specs.Kinds;
 ghost use Rattle.c_parts.specs.PartViews.{simple_rest_view, parts_view};
-ghost use Rattle.c_parts.specs.Reading.{first, rest, kind_of, block_of, item_of, items_of, statement_of, statements_of, if_statement_of, otherwise_of, otherwise_branch_of, for_start_of, optional_for_start_of, simple_of, optional_simple_of, simple_rest_of, assignment_sign_of, step_sign_of, case_labels_of, clause_of, clauses_of, body_of, optional_body_of, leave_of};
+ghost use Rattle.c_parts.specs.Reading.{first, rest, kind_of, block_of, item_of, items_of, statement_of, statements_of, if_statement_of, otherwise_of, otherwise_branch_of, for_start_of, optional_for_start_of, simple_of, optional_simple_of, simple_rest_of, case_labels_of, clause_of, clauses_of, body_of, optional_body_of, leave_of};
 
 use crate::chain::Chain;
-use crate::statement_part::{AssignmentSign, SimpleRest, StatementPart, StepSign};
 use crate::part::Part;
 use crate::parts::Parts;
-use c_program::{Block, Body, CaseLabel, Clause, ForStart, If, Item, Leave, Otherwise, Simple, Statement};
+use crate::statement_part::{SimpleRest, StatementPart};
+use c_program::{
+    Block, Body, CaseLabel, Clause, ForStart, If, Item, Leave, Otherwise, Simple, Statement,
+};
 
 impl<'a> Parts<'a> {
     /// Takes the first part: a compound statement.
@@ -31,7 +33,7 @@ impl<'a> Parts<'a> {
         ensures rest { parts_view self.new ≡ rest (parts_view self.old) }
     {
         match self.next() {
-            Part::Statement(StatementPart::Item(part)) => part,
+            Part::Statement(StatementPart::Item(part)) => Box::into_inner(part),
             _ => unreachable!(),
         }
     }
@@ -55,7 +57,7 @@ impl<'a> Parts<'a> {
         ensures rest { parts_view self.new ≡ rest (parts_view self.old) }
     {
         match self.next() {
-            Part::Statement(StatementPart::Statement(part)) => part,
+            Part::Statement(StatementPart::Statement(part)) => Box::into_inner(part),
             _ => unreachable!(),
         }
     }
@@ -164,30 +166,6 @@ impl<'a> Parts<'a> {
     {
         match self.next() {
             Part::Statement(StatementPart::SimpleRest(part)) => part,
-            _ => unreachable!(),
-        }
-    }
-
-    /// Takes the first part: `=` or an operator with it.
-    pub fn assignment_sign(&mut self) -> AssignmentSign
-        requires { kind_of (first (parts_view self.now)) ≡ Kinds.assignment_sign }
-        ensures result { result ≡ assignment_sign_of (first (parts_view self.old)) }
-        ensures rest { parts_view self.new ≡ rest (parts_view self.old) }
-    {
-        match self.next() {
-            Part::Statement(StatementPart::AssignmentSign(part)) => part,
-            _ => unreachable!(),
-        }
-    }
-
-    /// Takes the first part: `++` or `--`.
-    pub fn step_sign(&mut self) -> StepSign
-        requires { kind_of (first (parts_view self.now)) ≡ Kinds.step_sign }
-        ensures result { result ≡ step_sign_of (first (parts_view self.old)) }
-        ensures rest { parts_view self.new ≡ rest (parts_view self.old) }
-    {
-        match self.next() {
-            Part::Statement(StatementPart::StepSign(part)) => part,
             _ => unreachable!(),
         }
     }

@@ -37,7 +37,9 @@ fn put_specifier(specifier: &Specifier, out: &mut Vec<u8>) -> Result<(), AllocEr
             put_word(out, tag)
         }
         Specifier::EnumDeclaration {
-            tag, enumerators, ..
+            tag,
+            enumerators,
+            ..
         } => {
             put(out, b"enum")?;
             put_tag(tag, out)?;
@@ -134,10 +136,7 @@ fn put_initializer(initializer: &Initializer, out: &mut Vec<u8>) -> Result<(), A
     }
 }
 
-fn put_init_declarator(
-    declarator: &InitDeclarator,
-    out: &mut Vec<u8>,
-) -> Result<(), AllocError> {
+fn put_init_declarator(declarator: &InitDeclarator, out: &mut Vec<u8>) -> Result<(), AllocError> {
     put_declarator(&declarator.declarator, out)?;
     if let Some(initialization) = &declarator.initialization {
         put(out, b"=")?;

@@ -6,9 +6,13 @@ use std::alloc::AllocError;
 
 /// How tightly the operators bind that are no binary ones.
 const CONDITIONAL: u8 = 0;
+
 pub(crate) const MULTIPLICATIVE: u8 = 10;
+
 const UNARY: u8 = 11;
+
 const POSTFIX: u8 = 12;
+
 pub(crate) const PRIMARY: u8 = 13;
 
 /// How tightly an expression binds: least for `? :`, then as its operators, and most where it is one token.
@@ -68,7 +72,9 @@ pub(crate) fn put_expression(expression: &Expression, out: &mut Vec<u8>) -> Resu
             put_expression(otherwise, out)
         }
         Expression::Unary {
-            operator, operand, ..
+            operator,
+            operand,
+            ..
         } => {
             put(out, unary_token(*operator))?;
             put_operand(operand, MULTIPLICATIVE, out)
@@ -83,7 +89,9 @@ pub(crate) fn put_expression(expression: &Expression, out: &mut Vec<u8>) -> Resu
             put_type_name(type_name, out)
         }
         Expression::Cast {
-            type_name, operand, ..
+            type_name,
+            operand,
+            ..
         } => {
             put_type_name(type_name, out)?;
             put_operand(operand, MULTIPLICATIVE, out)

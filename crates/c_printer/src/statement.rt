@@ -32,13 +32,17 @@ fn put_statement(statement: &Statement, out: &mut Vec<u8>) -> Result<(), AllocEr
         Statement::Block(block) => put_block(block, out),
         Statement::If(inner) => put_if(inner, out),
         Statement::While {
-            condition, body, ..
+            condition,
+            body,
+            ..
         } => {
             put_condition(b"while", condition, out)?;
             put_block(body, out)
         }
         Statement::DoWhile {
-            body, condition, ..
+            body,
+            condition,
+            ..
         } => {
             put(out, b"do")?;
             put_block(body, out)?;

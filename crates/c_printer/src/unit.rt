@@ -22,10 +22,7 @@ fn put_external(external: &External, out: &mut Vec<u8>) -> Result<(), AllocError
     }
 }
 
-fn put_type_definition(
-    definition: &TypeDefinition,
-    out: &mut Vec<u8>,
-) -> Result<(), AllocError> {
+fn put_type_definition(definition: &TypeDefinition, out: &mut Vec<u8>) -> Result<(), AllocError> {
     put(out, b"typedef")?;
     put_specifiers(&definition.specifiers, out)?;
     put_pointers(&definition.pointers, out)?;

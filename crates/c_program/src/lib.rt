@@ -10,8 +10,8 @@ pub use declaration::{
     Declaration, InitDeclarator, Initialization, Initializer, Parameter, TypeDefinition,
 };
 pub use expression::{
-    BinaryOperator, Bound, Declarator, Enumerator, Expression, Keyword, MemberDeclaration, Operation,
-    Pointer, Postfix, Qualifier, Specifier, TypeName, UnaryOperator, Word,
+    BinaryOperator, Bound, Declarator, Enumerator, Expression, Keyword, MemberDeclaration,
+    Operation, Pointer, Postfix, Qualifier, Specifier, TypeName, UnaryOperator, Word,
 };
 pub use statement::{
     AssignmentOperator, Block, Body, CaseLabel, Clause, ForStart, If, Item, Leave, Otherwise,

@@ -26,10 +26,7 @@ fn the_syntax_is_refused_by_its_three_codes(rt: HostRuntime) -> Result<(), Fail>
             "refused U6 3:5 goto\n",
         ),
         ("int main(void)\n{\n", "refused U7 3:1 end\n"),
-        (
-            "int main(void)\n{\n    return 0\n}\n",
-            "refused U7 4:1 }\n",
-        ),
+        ("int main(void)\n{\n    return 0\n}\n", "refused U7 4:1 }\n"),
     ] {
         show(&rt, alloc, checked(text, line, 2))?;
     }
@@ -176,7 +173,11 @@ fn a_printed_tree_is_read_as_the_same_tree(rt: HostRuntime) -> Result<(), Fail> 
     show_printed(
         &rt,
         alloc,
-        framed(alloc, "    (void)mtx_lock(&m);\n    (void)mtx_unlock(&m);\n")?.as_str(),
+        framed(
+            alloc,
+            "    (void)mtx_lock(&m);\n    (void)mtx_unlock(&m);\n",
+        )?
+        .as_str(),
     )
 }
 
@@ -184,10 +185,7 @@ fn a_printed_tree_is_read_as_the_same_tree(rt: HostRuntime) -> Result<(), Fail> 
 fn a_tree_keeps_what_its_text_says(rt: HostRuntime) -> Result<(), Fail> {
     let alloc = rt.alloc();
     for (text, printed) in [
-        (
-            "int a=1,*b[2];",
-            "int a = 1 , * b [ 2 ] ; ",
-        ),
+        ("int a=1,*b[2];", "int a = 1 , * b [ 2 ] ; "),
         (
             "typedef struct s { int a, *b; } t; t c = { 1, { 2 } };",
             "typedef struct s { int a , * b ; } t ; t c = { 1 , { 2 , } , } ; ",
@@ -226,7 +224,11 @@ fn a_tree_keeps_what_its_text_says(rt: HostRuntime) -> Result<(), Fail> {
         ),
     ] {
         let tree = tree_of(&rt, alloc, text.as_bytes());
-        assert_eq!(rt; print(alloc, &tree)?.as_slice(), printed.as_bytes(), "{text}");
+        assert_eq!(rt;
+            print(alloc, &tree)?.as_slice(),
+            printed.as_bytes(),
+            "{text}"
+        );
     }
     Ok(())
 }

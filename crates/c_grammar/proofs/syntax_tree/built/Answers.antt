@@ -12,17 +12,17 @@ use Rattle.c_grammar.proofs.syntax_tree.built.Goals as goal
 
 pub loop-event-preserved : goal.loop-event-preserved
 loop-event-preserved c = elim c.match-event.branch [
-  in-Shift+in_ok-push-in-Shift w ↦
-    let goes = shifted c.args.text.now c.args.tokens.now c.args.events.now c.loop-event.event-index c.loop-event.shifted (stack_view c.loop-event.stack.items) _ _ _
-        c.loop-event-test.true w.in-Shift.is c.loop-event.invariant refl (part_view (Leaf w.leaf.result)) (ap PartData.leaf w.leaf.ensures) in
-    pushed c.args.text.now c.args.tokens.now c.args.events.now _ _ c.match-event.shifted c.loop-event.stack.items c.match-event.stack.items (Leaf w.leaf.result)
-        w.shifted-is (ap (λ (v : Vec Part Global). v.items) w.stack-is ∙ w.in_ok-push-in-Shift.ensures.items) goes
+  | in-Shift+in_ok-push-in-Shift w ↦
+      let goes = shifted c.args.text.now c.args.tokens.now c.args.events.now c.loop-event.event-index c.loop-event.shifted (stack_view c.loop-event.stack.items) _ _ _
+      c.loop-event-test.true w.in-Shift.is c.loop-event.invariant refl (part_view (Leaf w.leaf.result)) (ap PartData.leaf w.leaf.ensures) in
+      pushed c.args.text.now c.args.tokens.now c.args.events.now _ _ c.match-event.shifted c.loop-event.stack.items c.match-event.stack.items (Leaf w.leaf.result)
+      w.shifted-is (ap (λ (v : Vec Part Global). v.items) w.stack-is ∙ w.in_ok-push-in-Shift.ensures.items) goes
   | in-Reduce+in_ok-part-in-Reduce+in_ok-push-in-Reduce w ↦
-    let goes = reduced_goes c.args.text.now c.args.tokens.now c.args.events.now c.loop-event.event-index c.loop-event.shifted (stack_view c.loop-event.stack.items) _ _
-        no_token c.loop-event-test.true w.in-Reduce.is c.loop-event.invariant w.in-Reduce.number refl (part_view w.in_ok-part-in-Reduce.part) (stack_view w.reduced.new.stack.items)
-        w.in_ok-part-in-Reduce.ensures.part w.in_ok-part-in-Reduce.ensures.stack in
-    pushed c.args.text.now c.args.tokens.now c.args.events.now _ _ c.match-event.shifted w.reduced.new.stack.items c.match-event.stack.items w.in_ok-part-in-Reduce.part
-        w.shifted-is (ap (λ (v : Vec Part Global). v.items) w.stack-is ∙ w.in_ok-push-in-Reduce.ensures.items) goes
+      let goes = reduced_goes c.args.text.now c.args.tokens.now c.args.events.now c.loop-event.event-index c.loop-event.shifted (stack_view c.loop-event.stack.items) _ _
+      no_token c.loop-event-test.true w.in-Reduce.is c.loop-event.invariant w.in-Reduce.number refl (part_view w.in_ok-part-in-Reduce.part) (stack_view w.reduced.new.stack.items)
+      w.in_ok-part-in-Reduce.ensures.part w.in_ok-part-in-Reduce.ensures.stack in
+      pushed c.args.text.now c.args.tokens.now c.args.events.now _ _ c.match-event.shifted w.reduced.new.stack.items c.match-event.stack.items w.in_ok-part-in-Reduce.part
+      w.shifted-is (ap (λ (v : Vec Part Global). v.items) w.stack-is ∙ w.in_ok-push-in-Reduce.ensures.items) goes
 ]
 
 pub returns-clause-part : goal.returns-clause-part

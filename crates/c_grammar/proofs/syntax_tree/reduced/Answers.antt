@@ -24,7 +24,7 @@ pub loop-preserved : goal.loop-preserved
 loop-preserved c = record {
   parts = c.in_ok-put_front-in-Some.ensures
       ∙ part_joins (stack_view c.args.stack.now.items) c.loop.counter c.loop.stack.items c.loop.invariant.stack c.pop.new.self.items c.in-Some.part
-          c.in-Some.ensures.items (parts_view c.loop.parts) c.loop.invariant.parts;
+      c.in-Some.ensures.items (parts_view c.loop.parts) c.loop.invariant.parts;
   stack = init_is (stack_view c.args.stack.now.items) c.loop.counter c.loop.stack.items c.loop.invariant.stack c.pop.new.self.items c.in-Some.part
       c.in-Some.ensures.items;
 }

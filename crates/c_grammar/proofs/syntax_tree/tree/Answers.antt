@@ -18,7 +18,7 @@ built-requires-clause-steps c =
 pub returns-clause-tree : goal.returns-clause-tree
 returns-clause-tree c =
     let steps = subst (λ (ps : List Production). IsPostorder ps c.in_ok-derivation.derivation c.deref.result.now) c.in-Ok.ensures
-        (subst (λ (es : List Event). IsPostorder c.in-Ok.grammar c.in_ok-derivation.derivation es) (sym c.deref.ensures.value) c.in_ok-events.ensures) in
+    (subst (λ (es : List Event). IsPostorder c.in-Ok.grammar c.in_ok-derivation.derivation es) (sym c.deref.ensures.value) c.in_ok-events.ensures) in
     built_tree c.args.text.now c.args.tokens.now c.in_ok-derivation.derivation c.deref.result.now c.in_ok-derivation.ensures.derived steps (part_view c.in_ok-built.field-0) _
     c.in_ok-derivation.ensures.only c.in_ok-built.ensures.part
     (ap (map external_view) c.into_vec.ensures ∙ c.externals.ensures.result ∙ ap (λ ps. externals_of (first ps)) c.in_ok-put_front.ensures)
