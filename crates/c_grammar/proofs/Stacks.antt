@@ -10,7 +10,7 @@ use Rattle.c_parts.specs.PartViews.{part_view}
 use Rattle.c_parts.specs.declared.part.Part.{Part}
 use Rattle.c_parts.specs.Reading.{Fits, kind_of}
 use Rattle.c_nodes.specs.declared.action.Action.{Action}
-use Rattle.c_nodes.specs.Nodes.{kind, kinds, node}
+use Rattle.c_nodes.specs.Nodes.{kind, kinds}
 use Rattle.c_nodes.proofs.NodeKinds.{node_kind}
 use Rattle.ll_core.specs.declared.reductions.Event.{Event}
 use Rattle.ll_core.specs.declared.reductions.Event.TheVariants.{Shift, Reduce}

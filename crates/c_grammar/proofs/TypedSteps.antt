@@ -1,5 +1,5 @@
 -- Each production makes of parts of the right kinds a part of the right kind, so the steps of a derivation can be run.
-use Rattle.std.proofs.Common.{◌≡◌, ◌∙◌, ◌==◌, ◌||◌, ◌<◌, get_or, ℕ, ◌+◌, zero, suc, Bool, true, false, cond, true≢false, List, [], ◌∷◌, ◌++◌, map, length, reverse, Option, Some, None, slice_get, refl, sym, ap, subst, arith, append_assoc, append-nil, length-append}
+use Rattle.std.proofs.Common.{◌≡◌, ◌∙◌, ◌==◌, ◌||◌, ◌<◌, get_or, ℕ, ◌+◌, suc, Bool, true, false, cond, true≢false, List, [], ◌∷◌, ◌++◌, map, length, reverse, Option, Some, None, slice_get, refl, sym, ap, subst, arith, append_assoc, append-nil, length-append}
 use Rattle.std.specs.Option.{option_map}
 use Rattle.std.specs.List.{list_any}
 use Rattle.std.proofs.lemmas.Option.{slice_get-get_or, slice_get-map, none-some, same_Some}
@@ -15,7 +15,7 @@ use Rattle.c_nodes.specs.declared.action.Action.{Action}
 use Rattle.c_nodes.specs.Nodes.{kind, kinds}
 use Rattle.c_grammar.specs.declared.actions.TheConstants.{ACTIONS}
 use Rattle.c_grammar.specs.declared.tables.TheConstants.{PRODUCTIONS}
-use Rattle.c_grammar.specs.Trees.{IsRun, Takes}
+use Rattle.c_grammar.specs.Trees.{IsRun}
 
 -- the kind of a symbol: that of what its first production makes, and of a token where it has none
 kind_in : List Production → List Action → ℕ → Kinds.Kind

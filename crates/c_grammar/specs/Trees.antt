@@ -1,5 +1,5 @@
 -- The tree of a text: what its one derivation makes, production by production.
-use Rattle.std.specs.Prelude.{◌≡◌, ℕ, ◌==◌, zero, suc, if◌then◌else◌, List, [], ◌∷◌, ◌++◌, map, reverse, Option, Some, None, slice_get}
+use Rattle.std.specs.Prelude.{◌≡◌, ℕ, zero, suc, List, [], ◌∷◌, ◌++◌, map, reverse, Option, Some, None, slice_get}
 use Rattle.c_lexer.specs.declared.token.Token.{Token}
 use Rattle.c_lexer.specs.Slices.{token_text}
 use Rattle.c_program.specs.declared.expression.Word.{Word}

@@ -1,4 +1,4 @@
-use Rattle.std.proofs.Common.{◌≡◌, ◌∙◌, get_or, Some, ap, sym}
+use Rattle.std.proofs.Common.{◌∙◌, get_or, Some, ap, sym}
 use Rattle.std.proofs.lemmas.Option.{slice_get-get_or}
 use Rattle.c_nodes.specs.declared.action.Action.TheVariants.{Tag}
 use Rattle.c_grammar.specs.declared.actions.TheConstants.{ACTIONS}

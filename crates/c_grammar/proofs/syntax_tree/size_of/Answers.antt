@@ -1,4 +1,4 @@
-use Rattle.std.proofs.Common.{◌≡◌, ◌∙◌, ℕ, List, get_or, ap, sym}
+use Rattle.std.proofs.Common.{◌∙◌, ℕ, List, get_or, ap, sym}
 use Rattle.ll_core.specs.declared.production.Production.{Production}
 use Rattle.c_grammar.specs.declared.tables.TheConstants.{PRODUCTIONS}
 use Rattle.c_grammar.proofs.TypedSteps.{size_at}

@@ -1,4 +1,4 @@
-use Rattle.std.proofs.Common.{◌≡◌, ◌∙◌, List, [], map, length, ap, sym, subst}
+use Rattle.std.proofs.Common.{◌∙◌, List, [], map, length, ap, sym, subst}
 use Rattle.c_program.specs.StatementViews.{external_view}
 use Rattle.c_parts.specs.Reading.{first, externals_of}
 use Rattle.c_parts.specs.PartViews.{part_view}
