@@ -1,6 +1,7 @@
 -- What the types of declarations and statements stand for.
-use Rattle.std.specs.Prelude.{List, [], ◌∷◌, map, Option, None, Some}
+use Rattle.std.specs.Prelude.{ℕ, List, [], ◌∷◌, map, Option, None, Some}
 use Rattle.std.specs.Option.{option_map}
+use Rattle.c_program.specs.declared.expression.Expression.{Expression}
 use Rattle.c_program.specs.declared.declaration.Initializer.{Initializer, fold-Initializer, Initializer-F}
 use Rattle.c_program.specs.declared.declaration.Initialization.{Initialization}
 use Rattle.c_program.specs.declared.declaration.InitDeclarator.{InitDeclarator}
