@@ -36,7 +36,7 @@ same_forest g (x ∷ xs) (Node n c o) (Node m b v) r s d e same =
     let number : n ≡ m = same_head same in
     let production : d.0 ≡ e.0 = same_Some d.0 e.0 (sym d.1 ∙ ap (slice_get g) number ∙ e.1) in
     let inner = same_forest g (right_of d.0) c b (leftmost o ++ r) (leftmost v ++ s) d.3 (subst (λ (p : Production). IsForest g (right_of p) b) (sym production) e.3)
-        (sym (append_assoc (leftmost c) (leftmost o) r) ∙ same_tail same ∙ append_assoc (leftmost b) (leftmost v) s) in
+    (sym (append_assoc (leftmost c) (leftmost o) r) ∙ same_tail same ∙ append_assoc (leftmost b) (leftmost v) s) in
     let outer = same_forest g xs o v r s d.4 e.4 inner.1 in
     (ap (λ k. Node k c o) number ∙ ap (λ k. Node m k o) inner.0 ∙ ap (λ k. Node m b k) outer.0, outer.1)
 
