@@ -1,13 +1,15 @@
 #!/usr/bin/env python3
-"""Writes the tables of the grammar of C in tools/c_grammar.txt, and the lists by which they are shown to be right.
+"""Writes the tables of the grammar of C in tools/c_grammar.txt, the lists by which they are shown to be right, and what
+each production makes, after tools/c_actions.txt.
 
-    tools/c_grammar.py tables|lists
+    tools/c_grammar.py tables|lists|actions
 
 The grammar is in plain text: `{ }` repeats, `[ ]` may be missing, `( | )` chooses, quotes mark tokens. Each of these
 three becomes a symbol of its own, named after the rule that it stands in, which does not nest. `id`, `ty`, `library`
 and `num` are tokens too: an identifier, a typedef name, a type of the library and a constant. Tokens have the numbers
 of their classes in the lexer, other symbols those from 100 on. `tables` prints the module of productions and
-prediction rows, `lists` the lists of members, each with the production that puts it there by the members before it.
+prediction rows, `lists` the lists of members, each with the production that puts it there by the members before it,
+`actions` the module of what they make: tools/c_actions.txt has a line for each production, in the same order.
 """
 import re
 import sys
@@ -119,6 +121,20 @@ pub static ROWS: [Row; {row_count}] = rows![
 ];
 """
 
+ACTIONS = """//! What each production of the grammar makes of its parts, as tools/c_grammar.py writes it from tools/c_actions.txt.
+
+use c_nodes::{{
+    Action, DeclaratorAction, ExpressionAction, ExternalAction, SpecifierAction, StatementAction, SwitchAction,
+}};
+use c_program::{{AssignmentOperator, BinaryOperator, Keyword, Qualifier, Step, UnaryOperator}};
+
+/// What each production makes, in the order of the productions.
+#[rattlefmt::skip]
+pub static ACTIONS: [Action; {count}] = [
+{actions}
+];
+"""
+
 LISTS = """-- The sets of the grammar as lists, each member with the production that puts it there by the members before it, as
 -- tools/c_grammar.py writes them.
 use Rattle.std.specs.Prelude.{ℕ, List, [], ◌∷◌, ◌++◌}
@@ -134,6 +150,21 @@ t symbol token number = record { symbol = symbol; token = token; number = number
 
 def wrapped(items, indent="    ", width=118):
     return textwrap.fill(" ".join(items), width, initial_indent=indent, subsequent_indent=indent)
+
+
+def actions(named):
+    """A line for each production, after the file of actions, which has to name the same productions."""
+    lines = (Path(__file__).parent / "c_actions.txt").read_text().splitlines()
+    if len(lines) != len(named):
+        sys.exit(f"{len(lines)} actions for {len(named)} productions")
+    for number, (line, (name, parts)) in enumerate(zip(lines, named)):
+        production = f"{name} = {' '.join(parts)}".strip()
+        written, action = line.rsplit(" : ", 1)
+        if written != production:
+            sys.exit(f"line {number + 1}: {written} is not {production}")
+        group, _, rest = action.partition("::")
+        value = f"Action::{group}({group}Action::{rest})" if rest else f"Action::{action}"
+        yield f"    {value}, // {number} {production}"
 
 
 def main():
@@ -155,6 +186,9 @@ def main():
             ),
             end="",
         )
+        return
+    if sys.argv[1] == "actions":
+        print(ACTIONS.format(count=len(named), actions="\n".join(actions(named))), end="")
         return
     print(LISTS, end="")
     for name, members in (("sentences", sentences), ("nothing", nothing)):

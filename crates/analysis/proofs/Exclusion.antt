@@ -4,8 +4,11 @@ use Rattle.std.proofs.lemmas.Grind.{common_steps}
 use Rattle.std.proofs.lemmas.List.{take-append-drop}
 use Rattle.misra_base.specs.declared.refusal.Refusal.{Refusal}
 use Rattle.c_lexer.specs.Limits.{lexical_fault}
+use Rattle.c_lexer.specs.Tokens.{tokens_of}
+use Rattle.c_grammar.specs.declared.tables.TheConstants.{PRODUCTIONS}
+use Rattle.c_grammar.proofs.OneFault.{one_syntax_fault, no_syntax_fault}
 use Rattle.analysis.specs.Form.{Program, words_of, words_in, IsViable, LeavesFormAt}
-use Rattle.analysis.specs.Faults.{IsSupportedAs, IsFirstFault, IsFaultBehind, place_of}
+use Rattle.analysis.specs.Faults.{IsSupportedAs, IsFirstFault, IsFaultBehind, IsFaultBehindTokens, place_of}
 
 take-take-le : (j k : ℕ) (xs : List (List ℕ)) → j ≤ k → take j (take k xs) ≡ take j xs
 take-take-le j k xs less = grind (arith, common_steps)
@@ -51,14 +54,21 @@ pub no_fault : (text : List ℕ) (p : Program) (refusal : Refusal) → IsSupport
 no_fault text p refusal s fault = here (lexical_fault text) s.lexed fault
   where
     here : (limit : Option Refusal) → limit ≡ None → IsFaultBehind limit text refusal → ⊥
-    here None e f = nowhere text p f.word s f.leaves
+    here None e (inl f) = no_syntax_fault PRODUCTIONS text (tokens_of text) s.parsed.0 refusal s.parsed.1 f
+    here None e (inr f) = nowhere text p f.1.word s f.1.leaves
     here (Some l) e f = cc
 
 pub one_fault : (text : List ℕ) (a b : Refusal) → IsFirstFault text a → IsFirstFault text b → a ≡ b
 one_fault text a b = here (lexical_fault text)
   where
+    behind_tokens : IsFaultBehindTokens text a → IsFaultBehindTokens text b → a ≡ b
+    behind_tokens (inl f) (inl g) = one_syntax_fault PRODUCTIONS text (tokens_of text) a b f g
+    behind_tokens (inl f) (inr g) = absurd (no_syntax_fault PRODUCTIONS text (tokens_of text) g.0.0 a g.0.1 f)
+    behind_tokens (inr f) (inl g) = absurd (no_syntax_fault PRODUCTIONS text (tokens_of text) f.0.0 b f.0.1 g)
+    behind_tokens (inr f) (inr g) =
+        let same : f.1.word ≡ g.1.word = same_place (words_in text) f.1.word g.1.word f.1.leaves g.1.leaves in
+        f.1.is ∙ ap (λ (k : ℕ). record { code = 0; place = place_of text k; name = codes "not-built" }) same ∙ sym g.1.is
+
     here : (limit : Option Refusal) → IsFaultBehind limit text a → IsFaultBehind limit text b → a ≡ b
-    here None f g =
-        let same : f.word ≡ g.word = same_place (words_in text) f.word g.word f.leaves g.leaves in
-        f.is ∙ ap (λ (k : ℕ). record { code = 0; place = place_of text k; name = codes "not-built" }) same ∙ sym g.is
+    here None f g = behind_tokens f g
     here (Some l) f g = f ∙ sym g

@@ -8,3 +8,4 @@ mod Depth
 mod Silence
 mod Turns
 mod Exclusion
+mod Phases

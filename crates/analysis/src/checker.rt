@@ -12,6 +12,7 @@ use crate::findings::findings_of;
 use crate::form::program_of;
 use crate::laws::silence_is_sound;
 use crate::parsed::Parsed;
+use c_grammar::tree;
 use c_lexer::tokens;
 use misra_base::{CheckStop, FindingList, Report};
 use std::alloc::{AllocError, Global};
@@ -30,6 +31,7 @@ pub fn analyse(alloc: Global, text: &[u8]) -> Result<Report, CheckStop>
         → (run : List Choice) → IsRun p run → ¬ (Breaks R22_17 p run)) }
 {
     let tokens = tokens(alloc, text)?;
+    tree(alloc, text, &tokens)?;
     let program = program_of(alloc, text, &tokens)?;
     let report = report_of(alloc, &program)?;
     silence_is_sound();

@@ -27,7 +27,7 @@ fn rows_are_right()
     ensures { AreWellListedRows PRODUCTIONS lists ROWS }
 {}
 
-fn productions() -> &'static [Production; 234]
+pub(crate) fn productions() -> &'static [Production; 234]
     ensures { result.now ≡ PRODUCTIONS }
 {
     &PRODUCTIONS

@@ -4,17 +4,22 @@ ghost use Rattle.c_lexer.specs.Limits.{StopsBy};
 ghost use Rattle.c_lexer.specs.Slices.{IsWithin};
 ghost use Rattle.c_grammar.specs.Syntax.{classes_of, construct_name, refused_token, refused_at, too_deep, StopsBySyntax};
 
-use crate::grammar::c_grammar;
 use crate::tables::PRODUCTIONS;
 use c_lexer::{FIRST_PLACE, Token, TokenClass, place_after};
-use ll_core::{Derivation, ParseStop, parse};
+use ll_core::{Derivation, Grammar, ParseStop, parse};
 use misra_base::{CheckStop, Name, Place, Refusal};
 use std::alloc::{AllocError, Global};
 
 /// The leftmost derivation of the tokens of a text. Other tokens are refused at the first that no
 /// translation unit goes on with, as U6 where it is a construct that C has and this subset leaves out, else
 /// as U7; or as U8 at the first that is nested deeper than 64.
-pub fn derivation(alloc: Global, text: &[u8], tokens: &[Token]) -> Result<Derivation, CheckStop>
+pub fn derivation(
+    alloc: Global,
+    grammar: &Grammar<234, 1328>,
+    text: &[u8],
+    tokens: &[Token],
+) -> Result<Derivation, CheckStop>
+    requires grammar { grammar.now ≡ PRODUCTIONS }
     requires size { length text.now ≤ 262144 }
     requires within { All (IsWithin (length text.now)) tokens.now }
     requires classes { All (λ token. token.class < 80) tokens.now }
@@ -22,12 +27,8 @@ pub fn derivation(alloc: Global, text: &[u8], tokens: &[Token]) -> Result<Deriva
     ensures only { IfOk result (IsOnlyDerivation PRODUCTIONS (classes_of tokens.now)) }
     ensures refused { IfErr result (StopsBySyntax PRODUCTIONS text.now tokens.now) }
 {
-    let grammar = match c_grammar(alloc) {
-        Ok(grammar) => grammar,
-        Err(_) => return Err(CheckStop::Memory),
-    };
     let classes = classes_of(alloc, tokens)?;
-    match parse(alloc, &grammar, &classes) {
+    match parse(alloc, grammar, &classes) {
         Ok(derivation) => Ok(derivation),
         Err(ParseStop::At(k)) => Err(left_at(alloc, text, tokens.get(k).copied())),
         Err(ParseStop::Deep(k)) => Err(refused(alloc, 8, tokens[k].place, b"nesting")),

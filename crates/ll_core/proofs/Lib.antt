@@ -11,6 +11,7 @@ pub mod ListedLaw
 pub mod ListedTests
 pub mod ListedTruth
 pub mod Lookups
+pub mod OneDerivation
 pub mod Pairs
 pub mod Placing
 pub mod PredictedSets
@@ -21,3 +22,5 @@ pub mod RowsFound
 pub mod Shifts
 pub mod Steps
 pub mod Verdicts
+pub mod Reducing
+pub mod Folding

@@ -1,5 +1,5 @@
 -- At most one answer is right for a list of tokens.
-use Rattle.std.proofs.Common.{◌≡◌, ℕ, suc, ◌+◌, ◌<◌, ◌≤◌, List, ◌++◌, take, drop, length, get_or, refl, ap, sym, ◌∙◌, inl, inr, ◌⊎◌, append_assoc, arith, length-append, take-append-drop, Ok, Err, IfOk, IfErr, Result, slice_get, ⊎_elim}
+use Rattle.std.proofs.Common.{◌≡◌, ◌≢◌, ℕ, suc, ◌+◌, ◌<◌, ◌≤◌, List, ◌++◌, take, drop, length, get_or, refl, ap, sym, ◌∙◌, inl, inr, ◌⊎◌, append_assoc, arith, length-append, take-append-drop, Ok, Err, IfOk, IfErr, Result, slice_get, ⊎_elim}
 use Rattle.std.proofs.lemmas.List.{get_or-take, length-take-le, take-take}
 use Rattle.ll_core.specs.declared.production.Production.{Production}
 use Rattle.ll_core.specs.declared.parser.ParseStop.{ParseStop}
@@ -123,3 +123,31 @@ module _ (g : List Production) (tokens : List ℕ) where
       ⊎_elim (λ lt. absurd (deep-later k j stop s lt))
       (λ rest. ⊎_elim (λ e. inl (ap (λ i. Err (Deep i)) e)) (λ gt. absurd (deep-later j k s stop gt)) rest) (compare k j)
   answers_deep (Err Memory) derived stop j s = inr refl
+
+-- ---- at most one stop is right, and none where there is a sentence
+
+answer_of : ParseStop → Result (List ℕ) ParseStop
+answer_of stop = Err stop
+
+same_err : (a b : ParseStop) → answer_of a ≡ answer_of b → a ≡ b
+unfolding answer_of
+same_err a b h = cc
+
+from_err : {a b : ParseStop} → IsUnlessMemory (Err a) (Err b) → (a ≡ b) ⊎ (a ≡ Memory)
+unfolding answer_of
+from_err (inl e) = inl (same_err _ _ e)
+from_err (inr e) = inr (same_err _ _ e)
+
+pub one_stop : (g : List Production) (tokens : List ℕ) (a b : ParseStop) → a ≢ Memory → b ≢ Memory → IsStop g tokens a → IsStop g tokens b → a ≡ b
+one_stop g tokens Memory b some other s t = absurd (some refl)
+one_stop g tokens (At k) Memory some other s t = absurd (other refl)
+one_stop g tokens (Deep k) Memory some other s t = absurd (other refl)
+one_stop g tokens (At k) (At j) some other s t = ⊎_elim (λ e. e) (λ e. absurd (some e)) (from_err (answers_stop g tokens (Err (At k)) tt s j t))
+one_stop g tokens (At k) (Deep j) some other s t = ⊎_elim (λ e. e) (λ e. absurd (some e)) (from_err (answers_deep g tokens (Err (At k)) tt s j t))
+one_stop g tokens (Deep k) (At j) some other s t = ⊎_elim (λ e. e) (λ e. absurd (some e)) (from_err (answers_stop g tokens (Err (Deep k)) tt s j t))
+one_stop g tokens (Deep k) (Deep j) some other s t = ⊎_elim (λ e. e) (λ e. absurd (some e)) (from_err (answers_deep g tokens (Err (Deep k)) tt s j t))
+
+pub no_stop : (g : List Production) (tokens numbers : List ℕ) (stop : ParseStop) → stop ≢ Memory → IsDerivedWithin g tokens numbers → ¬ (IsStop g tokens stop)
+no_stop g tokens numbers Memory some derived s = some refl
+no_stop g tokens numbers (At k) some derived s = sentence-stop g tokens numbers k derived s
+no_stop g tokens numbers (Deep k) some derived s = sentence-deep g tokens numbers k derived s

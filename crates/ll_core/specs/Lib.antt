@@ -12,3 +12,5 @@ pub mod Sets
 pub mod Stacks
 pub mod Tables
 pub mod Trees
+pub mod Postorder
+pub mod Folds

@@ -1,9 +1,11 @@
 -- What was written before a fault is a front of the answer.
-use Rattle.std.proofs.Common.{◌≡◌, ◌≤◌, ◌⊎◌, inl, inr, ℕ, List, [], ◌++◌, length, take, append-nil, None, Some, IfSome, Result, Ok, Err, OnOk, OnErr, refl, ap, subst, ◌∙◌, arith}
+use Rattle.std.proofs.Common.{◌≡◌, ◌≤◌, ◌⊎◌, inl, inr, ℕ, List, [], ◌∷◌, ◌++◌, length, take, append-nil, None, Some, IfSome, Result, Ok, Err, OnOk, OnErr, refl, ap, subst, ◌∙◌, arith}
 use Rattle.std.proofs.Math.Seq.{take-length}
 use Rattle.std.specs.declared.option.Option.{Option}
 use Rattle.std.specs.Io.KnownBytes.{Appends, Keeps}
-use Rattle.misra_desk.specs.Answers.{IsAnswer, WritesFront, file_fault_line, memory_line}
+use Rattle.misra_base.specs.declared.finding.Finding.{Finding}
+use Rattle.analysis.specs.Findings.{findings_of}
+use Rattle.misra_desk.specs.Answers.{status_of, IsAnswer, WritesFront, file_fault_line, memory_line}
 
 -- all of a line, or after an error the first of it
 pub wrote_some : {E : Type 0} (result : Result (Unit {0}) E) (old new : Option (List ℕ)) (line : List ℕ) → OnOk result (Appends old new line)
@@ -46,3 +48,12 @@ of_first_bytes None left limit text P keeps is_text is p = tt
 of_first_bytes (Some all) None limit text P keeps is_text is p = absurd keeps
 of_first_bytes (Some all) (Some rest) limit text P keeps is_text is p =
     subst (λ (k : ℕ). P (take k all)) is (subst P (is_text ∙ ap (λ (bs : List ℕ). take limit bs) keeps) p)
+
+low : (found : List Finding) → status_of found ≤ 2
+low [] = omega arith
+low (f ∷ fs) = omega arith
+
+-- the status of an answer is 0, 1 or 2
+pub low_status : (text bytes : List ℕ) (status : ℕ) → IsAnswer text bytes status → status ≤ 2
+low_status text bytes status (inl report) = rw report.status_is (low (findings_of report.program))
+low_status text bytes status (inr refusal) = omega (arith, refusal.status_is)

@@ -5,13 +5,13 @@ use std::alloc::{AllocError, Global};
 use std::process::Abort;
 use std::test::Fail;
 
-const HEAD: &str =
+pub(crate) const HEAD: &str =
     "#include <threads.h>\nstatic mtx_t m;\nint main(void)\n{\n    (void)mtx_init(&m, mtx_plain);\n";
 
-const TAIL: &str = "    return 0;\n}\n";
+pub(crate) const TAIL: &str = "    return 0;\n}\n";
 
 /// The eight lines with an unlock that is found.
-const UNLOCK: &str =
+pub(crate) const UNLOCK: &str =
     "#include <threads.h>\nstatic mtx_t m;\nint main(void)\n{\n    (void)mtx_init(&m, mtx_plain);\n    (void)mtx_unlock(&m);\n    return 0;\n}\n";
 
 const FOUND: &str = "report 1\nR22.17 6:11 main m unlock -\nR22.17 1\nfindings 1\n";
@@ -23,7 +23,7 @@ const CLEAN: &str = "report 1\nR22.17 clean\nfindings 0\n";
 
 /// One run of the program over the file `text.c`, with what it writes and its status.
 #[derive(Clone, Copy)]
-struct Case<'a> {
+pub(crate) struct Case<'a> {
     words: &'a [&'a str],
     text: &'a str,
     /// The numbers of the calls of the files that fail.
@@ -58,7 +58,7 @@ fn status_of(alloc: Global, case: &Case, out: &mut MemorySink) -> Result<u8, All
 }
 
 /// Shows that the program does what the case says.
-fn show(rt: &impl Abort, alloc: Global, case: Case) -> Result<(), Fail> {
+pub(crate) fn show(rt: &impl Abort, alloc: Global, case: Case) -> Result<(), Fail> {
     let Case { text, status, .. } = case;
     let mut out = MemorySink::new(alloc, Vec::from_slice(alloc, case.output_failing)?);
     let answered = status_of(alloc, &case, &mut out)?;
@@ -68,7 +68,7 @@ fn show(rt: &impl Abort, alloc: Global, case: Case) -> Result<(), Fail> {
 }
 
 /// `check` over a text, where no call fails.
-fn checked<'a>(text: &'a str, output: &'a str, status: u8) -> Case<'a> {
+pub(crate) fn checked<'a>(text: &'a str, output: &'a str, status: u8) -> Case<'a> {
     Case {
         words: &["check", "text.c"],
         text,
@@ -80,14 +80,14 @@ fn checked<'a>(text: &'a str, output: &'a str, status: u8) -> Case<'a> {
 }
 
 /// A whole text of the form with these lines at its end.
-fn framed(alloc: Global, lines: &str) -> Result<String, AllocError> {
+pub(crate) fn framed(alloc: Global, lines: &str) -> Result<String, AllocError> {
     let mut text = String::from_str(alloc, HEAD)?;
     text.push_str(lines)?;
     text.push_str(TAIL)?;
     Ok(text)
 }
 
-fn repeated(alloc: Global, piece: &str, count: usize) -> Result<String, AllocError> {
+pub(crate) fn repeated(alloc: Global, piece: &str, count: usize) -> Result<String, AllocError> {
     let mut text = String::new(alloc);
     for _ in 0..count {
         text.push_str(piece)?;
@@ -105,18 +105,14 @@ fn texts_of_the_form_are_judged_and_others_refused(rt: HostRuntime) -> Result<()
             CLEAN,
             0,
         ),
-        ("    goto end;\n", "refused U0 6:5 not-built\n", 2),
+        ("    goto end;\n", "refused U6 6:5 goto\n", 2),
         (
             "    (void)mtx_lock(&n);\n",
             "refused U0 6:21 not-built\n",
             2,
         ),
-        ("    (void)mtx_lock(&m)\n", "refused U0 7:5 not-built\n", 2),
-        (
-            "    (void)mtx_lock(&&m);\n",
-            "refused U0 6:20 not-built\n",
-            2,
-        ),
+        ("    (void)mtx_lock(&m)\n", "refused U7 7:5 return\n", 2),
+        ("    (void)mtx_lock(&&m);\n", "refused U7 6:20 &&\n", 2),
         (
             "    (void)mtx_init(&m, mtx_recursive);\n",
             "refused U0 6:24 not-built\n",
@@ -164,16 +160,10 @@ fn a_text_is_refused_where_it_leaves_the_form(rt: HostRuntime) -> Result<(), Fai
         ("static mtx_t a, b;\n", "refused U0 1:15 not-built\n"),
         (
             "int main(void)\n{\n    (void)mtx_lock(&m);\n",
-            "refused U0 3:5 not-built\n",
+            "refused U7 4:1 end\n",
         ),
-        (
-            "int main(void)\n{\n    return 0",
-            "refused U0 3:13 not-built\n",
-        ),
-        (
-            "int main(void) { return 0; }\n;",
-            "refused U0 2:1 not-built\n",
-        ),
+        ("int main(void)\n{\n    return 0", "refused U7 3:13 end\n"),
+        ("int main(void) { return 0; }\n;", "refused U7 2:1 ;\n"),
     ] {
         show(&rt, alloc, checked(text, output, 2))?;
     }
@@ -194,7 +184,7 @@ fn limits_of_bytes_and_tokens_are_met_exactly(rt: HostRuntime) -> Result<(), Fai
     for (piece, count, output) in [
         (" ", 262_144, "refused U0 1:262145 not-built\n"),
         (" ", 262_145, "refused U5 1:1 bytes\n"),
-        ("a ", 60_000, "refused U0 1:1 not-built\n"),
+        ("a ", 60_000, "refused U7 1:1 a\n"),
         ("a ", 60_001, "refused U5 1:120001 tokens\n"),
     ] {
         let text = repeated(alloc, piece, count)?;

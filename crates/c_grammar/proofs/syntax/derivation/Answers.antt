@@ -11,13 +11,13 @@ pub returns-in-Err-At-clause-refused : goal.returns-in-Err-At-clause-refused
 returns-in-Err-At-clause-refused c =
     stops_by_syntax _ _ _ _ c.left_at.result c.left_at.ensures (λ refusal is. inl (record {
       number = c.in-Err-At.k;
-      stops = same_stop _ _ _ (classes_of c.args.tokens.now) _ (At c.in-Err-At.k) c.in-Ok.ensures (c.deref.ensures.value ∙ c.in_ok-classes.ensures) c.in-Err-At.field-0-is c.in-Err-At.ensures.stop;
+      stops = same_stop _ _ _ (classes_of c.args.tokens.now) _ (At c.in-Err-At.k) c.requires.grammar (c.deref.ensures.value ∙ c.in_ok-classes.ensures) c.in-Err-At.field-0-is c.in-Err-At.ensures.stop;
       is = is ∙ ap (λ t. refused_at c.args.text.now t) (c.copied.ensures ∙ copied_at c.args.tokens.now c.in-Err-At.k c.get.result _ c.get.ensures.lookup.1 c.get.ensures.lookup.3);
     }))
 
 pub returns-in-Err-Deep-clause-refused : goal.returns-in-Err-Deep-clause-refused
 returns-in-Err-Deep-clause-refused c =
-    let deep = same_stop _ _ _ (classes_of c.args.tokens.now) _ (Deep c.in-Err-Deep.k) c.in-Ok.ensures (c.deref.ensures.value ∙ c.in_ok-classes.ensures) c.in-Err-Deep.field-0-is c.in-Err-Deep.ensures.stop in
+    let deep = same_stop _ _ _ (classes_of c.args.tokens.now) _ (Deep c.in-Err-Deep.k) c.requires.grammar (c.deref.ensures.value ∙ c.in_ok-classes.ensures) c.in-Err-Deep.field-0-is c.in-Err-Deep.ensures.stop in
     stops_by_syntax _ _ _ _ c.refused.result c.refused.ensures (λ refusal is. inr (record {
       number = c.in-Err-Deep.k;
       token = get_or c.args.tokens.now c.in-Err-Deep.k _;

@@ -1,0 +1,67 @@
+ghost use Rattle.std.specs.Prelude.{◌≡◌, [], ◌∷◌, OnOk};
+ghost use Rattle.c_parts.specs.Kinds;
+ghost use Rattle.c_parts.specs.PartViews.{part_view, parts_view, leaf_view};
+ghost use Rattle.c_parts.specs.Reading.{first, rest, kind_of, leaf_of};
+
+use crate::chain::Chain;
+use crate::leaf::Leaf;
+use crate::part::Part;
+use misra_base::Place;
+use std::alloc::{AllocError, Global};
+
+/// The parts of a production, which are taken one by one from the first.
+#[derive(Drop)]
+pub struct Parts<'a> {
+    pub chain: Chain<Part<'a>>,
+}
+
+impl<'a> Parts<'a> {
+    /// No parts.
+    pub fn new(alloc: Global) -> Parts<'a>
+        ensures { parts_view result ≡ [] }
+    {
+        Parts {
+            chain: Chain::new(alloc),
+        }
+    }
+
+    /// Drops all parts, and keeps the room for them.
+    pub fn clear(&mut self)
+        ensures { parts_view self.new ≡ [] }
+    {
+        self.chain.clear();
+    }
+
+    /// Puts a part before all others.
+    pub fn put_front(&mut self, part: Part<'a>) -> Result<(), AllocError>
+        ensures { OnOk result (parts_view self.new ≡ part_view part.entry ∷ parts_view self.old) }
+    {
+        self.chain.put_front(part)
+    }
+
+    /// Takes the first part: a token without text where there is none.
+    pub(crate) fn next(&mut self) -> Part<'a>
+        ensures part { part_view result ≡ first (parts_view self.old) }
+        ensures rest { parts_view self.new ≡ rest (parts_view self.old) }
+    {
+        match self.chain.take_front() {
+            Some(part) => part,
+            None => Part::Leaf(Leaf {
+                place: Place { line: 1, column: 1 },
+                text: &[],
+            }),
+        }
+    }
+
+    /// Takes the first part, a token.
+    pub fn leaf(&mut self) -> Leaf<'a>
+        requires { kind_of (first (parts_view self.now)) ≡ Kinds.leaf }
+        ensures result { leaf_view result ≡ leaf_of (first (parts_view self.old)) }
+        ensures rest { parts_view self.new ≡ rest (parts_view self.old) }
+    {
+        match self.next() {
+            Part::Leaf(leaf) => leaf,
+            _ => unreachable!(),
+        }
+    }
+}

@@ -1,0 +1,227 @@
+use misra_base::{Name, Place};
+
+/// A word of the text, and where it stands.
+#[derive(Debug, Drop)]
+pub struct Word {
+    pub place: Place,
+    pub text: Name,
+}
+
+/// An operator with two operands (C11 6.5.5 to 6.5.14).
+#[derive(Clone, Copy, Debug, PartialEq, Eq)]
+pub enum BinaryOperator {
+    Multiply,
+    Divide,
+    Remainder,
+    Add,
+    Subtract,
+    ShiftLeft,
+    ShiftRight,
+    Less,
+    Greater,
+    LessEqual,
+    GreaterEqual,
+    Equal,
+    NotEqual,
+    And,
+    Xor,
+    Or,
+    LogicalAnd,
+    LogicalOr,
+}
+
+/// An operator with one operand behind it (C11 6.5.3).
+#[derive(Clone, Copy, Debug, PartialEq, Eq)]
+pub enum UnaryOperator {
+    Address,
+    Indirection,
+    Plus,
+    Minus,
+    Complement,
+    Not,
+}
+
+/// A keyword among declaration specifiers (C11 6.7.1 to 6.7.4).
+#[derive(Clone, Copy, Debug, PartialEq, Eq)]
+pub enum Keyword {
+    Static,
+    Extern,
+    Inline,
+    ThreadLocal,
+    Const,
+    Volatile,
+    Atomic,
+    Void,
+    Char,
+    Short,
+    Int,
+    Long,
+    Signed,
+    Unsigned,
+    Bool,
+}
+
+/// A type qualifier of a pointer (C11 6.7.3).
+#[derive(Clone, Copy, Debug, PartialEq, Eq)]
+pub enum Qualifier {
+    Const,
+    Volatile,
+}
+
+/// A `*` of a declarator or a type name, with the qualifiers behind it (C11 6.7.6.1).
+#[derive(Debug, Drop)]
+pub struct Pointer {
+    pub place: Place,
+    pub qualifiers: Vec<Qualifier>,
+}
+
+/// An expression (C11 6.5). Brackets round an expression are gone, and operators of one precedence that
+/// follow each other are one list.
+#[cycle(expression)]
+#[derive(Debug, Drop)]
+pub enum Expression {
+    Identifier(Word),
+    /// A number or a character.
+    Constant(Word),
+    /// `first operator operand operator operand ..`, grouped to the left.
+    Binary {
+        first: Box<Expression>,
+        rest: Vec<Operation>,
+    },
+    Conditional {
+        condition: Box<Expression>,
+        question: Place,
+        then: Box<Expression>,
+        otherwise: Box<Expression>,
+    },
+    Unary {
+        place: Place,
+        operator: UnaryOperator,
+        operand: Box<Expression>,
+    },
+    SizeofExpression {
+        place: Place,
+        operand: Box<Expression>,
+    },
+    SizeofType {
+        place: Place,
+        type_name: TypeName,
+    },
+    Cast {
+        place: Place,
+        type_name: TypeName,
+        operand: Box<Expression>,
+    },
+    Postfix {
+        operand: Box<Expression>,
+        postfixes: Vec<Postfix>,
+    },
+}
+
+/// An operator and its right operand.
+#[cycle(expression)]
+#[derive(Debug, Drop)]
+pub struct Operation {
+    pub place: Place,
+    pub operator: BinaryOperator,
+    pub operand: Expression,
+}
+
+/// What stands behind an operand (C11 6.5.2).
+#[cycle(expression)]
+#[derive(Debug, Drop)]
+pub enum Postfix {
+    Index {
+        place: Place,
+        index: Expression,
+    },
+    Call {
+        place: Place,
+        arguments: Vec<Expression>,
+    },
+    Member {
+        place: Place,
+        member: Word,
+    },
+    Arrow {
+        place: Place,
+        member: Word,
+    },
+}
+
+/// A type name (C11 6.7.7).
+#[cycle(expression)]
+#[derive(Debug, Drop)]
+pub struct TypeName {
+    pub specifiers: Vec<Specifier>,
+    pub pointers: Vec<Pointer>,
+}
+
+/// A declaration specifier (C11 6.7).
+#[cycle(expression)]
+#[derive(Debug, Drop)]
+pub enum Specifier {
+    Keyword {
+        place: Place,
+        keyword: Keyword,
+    },
+    /// A type of the library.
+    LibraryType(Word),
+    /// A name that `typedef` has declared.
+    TypedefName(Word),
+    /// `struct tag`
+    StructReference {
+        place: Place,
+        tag: Word,
+    },
+    /// `struct [ tag ] { members }`
+    StructDeclaration {
+        place: Place,
+        tag: Option<Word>,
+        members: Vec<MemberDeclaration>,
+    },
+    /// `enum tag`
+    EnumReference {
+        place: Place,
+        tag: Word,
+    },
+    /// `enum [ tag ] { enumerators }`
+    EnumDeclaration {
+        place: Place,
+        tag: Option<Word>,
+        enumerators: Vec<Enumerator>,
+    },
+}
+
+/// Members of one type (C11 6.7.2.1).
+#[cycle(expression)]
+#[derive(Debug, Drop)]
+pub struct MemberDeclaration {
+    pub specifiers: Vec<Specifier>,
+    pub declarators: Vec<Declarator>,
+}
+
+/// A name with what stands round it (C11 6.7.6).
+#[cycle(expression)]
+#[derive(Debug, Drop)]
+pub struct Declarator {
+    pub pointers: Vec<Pointer>,
+    pub name: Word,
+    pub bounds: Vec<Bound>,
+}
+
+/// `[ size ]` of an array (C11 6.7.6.2).
+#[cycle(expression)]
+#[derive(Debug, Drop)]
+pub struct Bound {
+    pub size: Option<Expression>,
+    pub close: Place,
+}
+
+/// A constant of an enumeration (C11 6.7.2.2).
+#[cycle(expression)]
+#[derive(Debug, Drop)]
+pub struct Enumerator {
+    pub name: Word,
+    pub value: Option<Expression>,
+}

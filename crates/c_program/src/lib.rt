@@ -1,0 +1,20 @@
+//! The tree of a C text.
+#![tactic(auto)]
+
+mod declaration;
+mod expression;
+mod statement;
+mod tree;
+
+pub use declaration::{
+    Declaration, InitDeclarator, Initialization, Initializer, Parameter, TypeDefinition,
+};
+pub use expression::{
+    BinaryOperator, Bound, Declarator, Enumerator, Expression, Keyword, MemberDeclaration,
+    Operation, Pointer, Postfix, Qualifier, Specifier, TypeName, UnaryOperator, Word,
+};
+pub use statement::{
+    AssignmentOperator, Block, Body, CaseLabel, Clause, ForStart, If, Item, Leave, Otherwise,
+    Simple, Statement, Step,
+};
+pub use tree::{External, Function, Tree};
