@@ -1,301 +1,303 @@
-/// Texts over each alternative of the grammar, with the line that the program answers. A text that is a translation
-/// unit of the subset is refused as one that is not built, where it leaves the form of the texts that are judged; any
-/// other at its first token that no translation unit goes on with.
+/// Texts over each alternative of the grammar, a line for each: the text, ` => `, and where it is refused. A text that
+/// is a translation unit of the subset is refused as one that is not built, where it leaves the form of the texts that
+/// are judged; any other at its first token that no translation unit goes on with. The other lines say what is tried.
 #[rattlefmt::skip]
-pub(crate) const ROWS: [(&str, &str); 282] = [
-    // Translation units and external declarations (C11 6.9).
-    ("int x; int y;", "refused U0 1:5 not-built\n"),
-    ("int x; ;", "refused U7 1:8 ;\n"),
-    ("int x; }", "refused U7 1:8 }\n"),
-    ("1", "refused U7 1:1 1\n"),
-    ("main", "refused U7 1:1 main\n"),
-    ("typedef int t; t x;", "refused U0 1:1 not-built\n"),
-    ("typedef ;", "refused U7 1:9 ;\n"),
-    ("typedef int ;", "refused U7 1:13 ;\n"),
-    ("typedef int t, u;", "refused U7 1:14 ,\n"),
-    ("typedef int t[2];", "refused U7 1:14 [\n"),
-    ("typedef int t", "refused U7 1:14 end\n"),
-    ("struct s;", "refused U0 1:1 not-built\n"),
-    (";", "refused U7 1:1 ;\n"),
-    ("int ;", "refused U0 1:5 not-built\n"),
-    ("int )", "refused U7 1:5 )\n"),
-    ("void f(void);", "refused U0 1:1 not-built\n"),
-    ("void f(void) { }", "refused U0 1:1 not-built\n"),
-    ("void f() { }", "refused U7 1:8 )\n"),
-    ("void f(void;", "refused U7 1:12 ;\n"),
-    ("void f(void) int x;", "refused U7 1:14 int\n"),
-    ("void f(void) = 1;", "refused U7 1:14 =\n"),
-    ("void (*f)(void);", "refused U7 1:6 (\n"),
-    ("void f(int a, int *b, int c[], int d[2], int);", "refused U0 1:1 not-built\n"),
-    ("void f(int a b);", "refused U7 1:14 b\n"),
-    ("void f(int a, );", "refused U7 1:15 )\n"),
-    ("void f(int a[2][2]);", "refused U7 1:16 [\n"),
-    ("void f(a);", "refused U7 1:8 a\n"),
-    ("void f(int a, ...);", "refused U6 1:15 ...\n"),
-    ("void f(int a = 1);", "refused U7 1:14 =\n"),
-    // Objects, declarators and pointers (C11 6.7, 6.7.6).
-    ("int a, b[2], *c;", "refused U0 1:5 not-built\n"),
-    ("int a = 1, b[2] = { 1 };", "refused U0 1:5 not-built\n"),
-    ("int a b;", "refused U7 1:7 b\n"),
-    ("int a = ;", "refused U7 1:9 ;\n"),
-    ("int a, ;", "refused U7 1:8 ;\n"),
-    ("int a[2;", "refused U7 1:8 ;\n"),
-    ("int a[];", "refused U0 1:5 not-built\n"),
-    ("int a[2][3];", "refused U0 1:5 not-built\n"),
-    ("int a)", "refused U7 1:6 )\n"),
-    ("int a = 1 2;", "refused U7 1:11 2\n"),
-    ("int a++;", "refused U7 1:6 ++\n"),
-    ("int a[1, 2];", "refused U7 1:8 ,\n"),
-    ("int *p;", "refused U0 1:5 not-built\n"),
-    ("int * const * volatile p;", "refused U0 1:5 not-built\n"),
-    ("int * static p;", "refused U7 1:7 static\n"),
-    ("int * const;", "refused U7 1:12 ;\n"),
-    ("int * int p;", "refused U7 1:7 int\n"),
-    ("int * restrict p;", "refused U6 1:7 restrict\n"),
-    // Declaration specifiers (C11 6.7.1 to 6.7.4).
-    ("extern int a;", "refused U0 1:1 not-built\n"),
-    ("inline int f(void);", "refused U0 1:1 not-built\n"),
-    ("_Thread_local int a;", "refused U0 1:1 not-built\n"),
-    ("thread_local int a;", "refused U0 1:1 not-built\n"),
-    ("const int a;", "refused U0 1:1 not-built\n"),
-    ("volatile int a;", "refused U0 1:1 not-built\n"),
-    ("_Atomic int a;", "refused U0 1:1 not-built\n"),
-    ("void *a;", "refused U0 1:1 not-built\n"),
-    ("char a;", "refused U0 1:1 not-built\n"),
-    ("short a;", "refused U0 1:1 not-built\n"),
-    ("long a;", "refused U0 1:1 not-built\n"),
-    ("signed a;", "refused U0 1:1 not-built\n"),
-    ("unsigned a;", "refused U0 1:1 not-built\n"),
-    ("_Bool a;", "refused U0 1:1 not-built\n"),
-    ("bool a;", "refused U0 1:1 not-built\n"),
-    ("mtx_t a;", "refused U0 1:1 not-built\n"),
-    ("static int a;", "refused U0 1:8 not-built\n"),
-    ("static static mtx_t m;", "refused U0 1:8 not-built\n"),
-    ("static ;", "refused U0 1:8 not-built\n"),
-    ("static a;", "refused U0 1:8 not-built\n"),
-    ("union u;", "refused U6 1:1 union\n"),
-    ("int goto;", "refused U6 1:5 goto\n"),
-    ("double x;", "refused U6 1:1 double\n"),
-    // Structures (C11 6.7.2.1).
-    ("struct s { int a; };", "refused U0 1:1 not-built\n"),
-    ("struct { int a, *b; char c[2]; } x;", "refused U0 1:1 not-built\n"),
-    ("struct s { } x;", "refused U0 1:1 not-built\n"),
-    ("struct s x;", "refused U0 1:1 not-built\n"),
-    ("struct s *p;", "refused U0 1:1 not-built\n"),
-    ("struct s { struct { int a; } b; int c[2][3]; };", "refused U0 1:1 not-built\n"),
-    ("struct ;", "refused U7 1:8 ;\n"),
-    ("struct s { int ; };", "refused U7 1:16 ;\n"),
-    ("struct s { int a };", "refused U7 1:18 }\n"),
-    ("struct s { int a[]; };", "refused U7 1:18 ]\n"),
-    ("struct s { int a = 1; };", "refused U7 1:18 =\n"),
-    ("struct s { a; };", "refused U7 1:12 a\n"),
-    ("struct s { int a : 1; };", "refused U7 1:18 :\n"),
-    ("struct s { int a; ", "refused U7 1:19 end\n"),
-    ("struct s { int a, ; };", "refused U7 1:19 ;\n"),
-    ("struct int;", "refused U7 1:8 int\n"),
-    ("typedef int t; struct t { t a; };", "refused U0 1:1 not-built\n"),
-    // Enumerations (C11 6.7.2.2).
-    ("enum e { A, B = 2, C };", "refused U0 1:1 not-built\n"),
-    ("enum { A, };", "refused U0 1:1 not-built\n"),
-    ("enum e x;", "refused U0 1:1 not-built\n"),
-    ("enum e { A = 1 } x = A;", "refused U0 1:1 not-built\n"),
-    ("enum e { };", "refused U7 1:10 }\n"),
-    ("enum e { A B };", "refused U7 1:12 B\n"),
-    ("enum e { A = , B };", "refused U7 1:14 ,\n"),
-    ("enum e { A, , B };", "refused U7 1:13 ,\n"),
-    ("enum ;", "refused U7 1:6 ;\n"),
-    ("enum e { 2 };", "refused U7 1:10 2\n"),
-    ("enum e { A = 1 = 2 };", "refused U7 1:16 =\n"),
-    // Initialisers (C11 6.7.9).
-    ("int a[2] = { 1, 2 };", "refused U0 1:5 not-built\n"),
-    ("int a[2] = { 1, 2, };", "refused U0 1:5 not-built\n"),
-    ("int a[2][2] = { { 1, 2 }, { 3, 4 } };", "refused U0 1:5 not-built\n"),
-    ("int a[2] = { };", "refused U7 1:14 }\n"),
-    ("int a[2] = { 1 2 };", "refused U7 1:16 2\n"),
-    ("int a[2] = { 1, , 2 };", "refused U7 1:17 ,\n"),
-    ("int a = { . x = 1 };", "refused U7 1:11 .\n"),
-    ("int a[1] = { [0] = 1 };", "refused U7 1:14 [\n"),
-    ("int a = { 1 ;", "refused U7 1:13 ;\n"),
-    ("int a = { 1 } + 1;", "refused U7 1:15 +\n"),
-    // Blocks (C11 6.8.2).
-    ("int main(void) { { } return 0; }", "refused U0 1:18 not-built\n"),
-    ("int main(void) { int a; return 0; }", "refused U0 1:18 not-built\n"),
-    ("int main(void) { int a = 1, *b[2]; return 0; }", "refused U0 1:18 not-built\n"),
-    ("int main(void) { struct s; return 0; }", "refused U0 1:18 not-built\n"),
-    ("int main(void) { int; return 0; }", "refused U0 1:18 not-built\n"),
-    ("int main(void) { static int a = { 1 }; return 0; }", "refused U0 1:18 not-built\n"),
-    ("int main(void) { int f(void); }", "refused U7 1:23 (\n"),
-    ("int main(void) { typedef int t; }", "refused U7 1:18 typedef\n"),
-    ("int main(void) { return 0; return 0; }", "refused U0 1:28 not-built\n"),
-    ("int main(void) { break; }", "refused U0 1:18 not-built\n"),
-    ("int main(void) { ", "refused U7 1:18 end\n"),
-    ("int main(void) { } }", "refused U7 1:20 }\n"),
-    ("int main(void) { int { } }", "refused U7 1:22 {\n"),
-    // Statements that choose (C11 6.8.4).
-    ("int main(void) { if (1) { } return 0; }", "refused U0 1:18 not-built\n"),
-    ("int main(void) { if (1) { } else { } }", "refused U0 1:18 not-built\n"),
-    ("int main(void) { if (1) { } else if (2) { } else { } }", "refused U0 1:18 not-built\n"),
-    ("int main(void) { if (1) return 0; }", "refused U7 1:25 return\n"),
-    ("int main(void) { if 1) { } }", "refused U7 1:21 1\n"),
-    ("int main(void) { if () { } }", "refused U7 1:22 )\n"),
-    ("int main(void) { if (1) { } else ; }", "refused U7 1:34 ;\n"),
-    ("int main(void) { else { } }", "refused U7 1:18 else\n"),
-    ("int main(void) { if (1 { } }", "refused U7 1:24 {\n"),
-    ("int main(void) { if (x = 1) { } }", "refused U7 1:24 =\n"),
-    ("int main(void) { switch (x) { } }", "refused U0 1:18 not-built\n"),
-    ("int main(void) { switch (x) { case 1: break; } }", "refused U0 1:18 not-built\n"),
-    ("int main(void) { switch (x) { case 1: case 2: x = 1; break; default: return 0; } }", "refused U0 1:18 not-built\n"),
-    ("int main(void) { switch (x) { case 1: x = 1; case 2: break; } }", "refused U7 1:46 case\n"),
-    ("int main(void) { switch (x) { case 1: } }", "refused U7 1:39 }\n"),
-    ("int main(void) { switch (x) { x = 1; } }", "refused U7 1:31 x\n"),
-    ("int main(void) { switch (x) { default: break; case 1: break; } }", "refused U7 1:47 case\n"),
-    ("int main(void) { switch (x) { case : break; } }", "refused U7 1:36 :\n"),
-    ("int main(void) { switch (x) case 1: break; }", "refused U7 1:29 case\n"),
-    ("int main(void) { switch (x) { default; } }", "refused U7 1:38 ;\n"),
-    ("int main(void) { switch (x) { case 1: break; break; } }", "refused U7 1:46 break\n"),
-    ("int main(void) { switch (x) { case 1: int a; break; } }", "refused U7 1:39 int\n"),
-    ("int main(void) { case 1: break; }", "refused U7 1:18 case\n"),
-    ("int main(void) { switch (x) { case 1: case 2; } }", "refused U7 1:45 ;\n"),
-    // Loops and jumps (C11 6.8.5, 6.8.6).
-    ("int main(void) { while (1) { } }", "refused U0 1:18 not-built\n"),
-    ("int main(void) { while (1) ; }", "refused U7 1:28 ;\n"),
-    ("int main(void) { while () { } }", "refused U7 1:25 )\n"),
-    ("int main(void) { while x { } }", "refused U7 1:24 x\n"),
-    ("int main(void) { do { } while (1); }", "refused U0 1:18 not-built\n"),
-    ("int main(void) { do x; while (1); }", "refused U7 1:21 x\n"),
-    ("int main(void) { do { } while (1)  }", "refused U7 1:36 }\n"),
-    ("int main(void) { do { } return 0; }", "refused U7 1:25 return\n"),
-    ("int main(void) { for (;;) { } }", "refused U0 1:18 not-built\n"),
-    ("int main(void) { for (int i = 0; i < 2; i++) { } }", "refused U0 1:18 not-built\n"),
-    ("int main(void) { for (i = 0; ; ++i) { } }", "refused U0 1:18 not-built\n"),
-    ("int main(void) { for (i; i; i) { } }", "refused U0 1:18 not-built\n"),
-    ("int main(void) { for (const int *p = &x; ; ) { } }", "refused U0 1:18 not-built\n"),
-    ("int main(void) { for (int i; ;) { } }", "refused U7 1:28 ;\n"),
-    ("int main(void) { for (;) { } }", "refused U7 1:24 )\n"),
-    ("int main(void) { for (;;) x; }", "refused U7 1:27 x\n"),
-    ("int main(void) { for (int i = 0, j = 0; ;) { } }", "refused U7 1:32 ,\n"),
-    ("int main(void) { for (; ; int k = 0) { } }", "refused U7 1:27 int\n"),
-    ("int main(void) { for (; x = 1;) { } }", "refused U7 1:27 =\n"),
-    ("int main(void) { for ;;) { } }", "refused U7 1:22 ;\n"),
-    ("int main(void) { continue; }", "refused U0 1:18 not-built\n"),
-    ("int main(void) { continue 1; }", "refused U7 1:27 1\n"),
-    ("int main(void) { break x; }", "refused U7 1:24 x\n"),
-    ("int main(void) { return ; }", "refused U0 1:25 not-built\n"),
-    ("int main(void) { return 1; }", "refused U0 1:25 not-built\n"),
-    ("int main(void) { return 0 + 1; }", "refused U0 1:27 not-built\n"),
-    ("int main(void) { return 0  }", "refused U7 1:28 }\n"),
-    ("int main(void) { return return; }", "refused U7 1:25 return\n"),
-    ("int main(void) { goto end; }", "refused U6 1:18 goto\n"),
-    ("int main(void) { ; }", "refused U0 1:18 not-built\n"),
-    ("int main(void) { x : ; }", "refused U7 1:20 :\n"),
-    // Assignments and steps (C11 6.5.16, 6.5.2.4, 6.5.3.1).
-    ("int main(void) { ++x; }", "refused U0 1:18 not-built\n"),
-    ("int main(void) { --x; }", "refused U0 1:18 not-built\n"),
-    ("int main(void) { x++; }", "refused U0 1:18 not-built\n"),
-    ("int main(void) { x--; }", "refused U0 1:18 not-built\n"),
-    ("int main(void) { (*p)++; }", "refused U0 1:18 not-built\n"),
-    ("int main(void) { *p++; }", "refused U0 1:18 not-built\n"),
-    ("int main(void) { x = 1; }", "refused U0 1:18 not-built\n"),
-    ("int main(void) { x *= 1; x /= 1; x %= 1; x += 1; x -= 1; }", "refused U0 1:18 not-built\n"),
-    ("int main(void) { x <<= 1; x >>= 1; x &= 1; x ^= 1; x |= 1; }", "refused U0 1:18 not-built\n"),
-    ("int main(void) { x = y = 1; }", "refused U7 1:24 =\n"),
-    ("int main(void) { x++ ++; }", "refused U7 1:22 ++\n"),
-    ("int main(void) { ++; }", "refused U7 1:20 ;\n"),
-    ("int main(void) { ++ ++x; }", "refused U7 1:21 ++\n"),
-    ("int main(void) { x y; }", "refused U7 1:20 y\n"),
-    ("int main(void) { x = ; }", "refused U7 1:22 ;\n"),
-    ("int main(void) { x , y; }", "refused U7 1:20 ,\n"),
-    ("int main(void) { x = y++; }", "refused U7 1:23 ++\n"),
-    ("int main(void) { ++x = 1; }", "refused U7 1:22 =\n"),
-    ("int main(void) { --x--; }", "refused U7 1:21 --\n"),
-    ("int main(void) { x += += 1; }", "refused U7 1:23 +=\n"),
-    ("int main(void) { return x++; }", "refused U7 1:26 ++\n"),
-    ("int main(void) { f(); f(1); }", "refused U0 1:18 not-built\n"),
-    // Conditions and operators (C11 6.5.5 to 6.5.15).
-    ("int main(void) { return x ? 1 : 2; }", "refused U0 1:25 not-built\n"),
-    ("int main(void) { return x ? y ? 1 : 2 : 3; }", "refused U0 1:25 not-built\n"),
-    ("int main(void) { return x ? 1 : y ? 2 : 3; }", "refused U0 1:25 not-built\n"),
-    ("int main(void) { return x ? 1 ; }", "refused U7 1:31 ;\n"),
-    ("int main(void) { return x : 1; }", "refused U7 1:27 :\n"),
-    ("int main(void) { return x ? : 1; }", "refused U7 1:29 :\n"),
-    ("int main(void) { return x ? 1 : ; }", "refused U7 1:33 ;\n"),
-    ("int main(void) { return a || b || b; }", "refused U0 1:25 not-built\n"),
-    ("int main(void) { return a && b && b; }", "refused U0 1:25 not-built\n"),
-    ("int main(void) { return a | b | b; }", "refused U0 1:25 not-built\n"),
-    ("int main(void) { return a ^ b ^ b; }", "refused U0 1:25 not-built\n"),
-    ("int main(void) { return a & b & b; }", "refused U0 1:25 not-built\n"),
-    ("int main(void) { return a == b != b == b; }", "refused U0 1:25 not-built\n"),
-    ("int main(void) { return a < b > b <= b >= b < b; }", "refused U0 1:25 not-built\n"),
-    ("int main(void) { return a << b >> b << b; }", "refused U0 1:25 not-built\n"),
-    ("int main(void) { return a + b - b + b; }", "refused U0 1:25 not-built\n"),
-    ("int main(void) { return a * b / b % b * b; }", "refused U0 1:25 not-built\n"),
-    ("int main(void) { return a || ; }", "refused U7 1:30 ;\n"),
-    ("int main(void) { return a && || b; }", "refused U7 1:30 ||\n"),
-    ("int main(void) { return a | ^ b; }", "refused U7 1:29 ^\n"),
-    ("int main(void) { return a ^ ; }", "refused U7 1:29 ;\n"),
-    ("int main(void) { return a & / b; }", "refused U7 1:29 /\n"),
-    ("int main(void) { return a == != b; }", "refused U7 1:30 !=\n"),
-    ("int main(void) { return a < > b; }", "refused U7 1:29 >\n"),
-    ("int main(void) { return a << >> b; }", "refused U7 1:30 >>\n"),
-    ("int main(void) { return a + / b; }", "refused U7 1:29 /\n"),
-    ("int main(void) { return a * % b; }", "refused U7 1:29 %\n"),
-    ("int main(void) { return == a; }", "refused U7 1:25 ==\n"),
-    ("int main(void) { return a + b * c << 1 < d == e & f ^ g | h && i || j; }", "refused U0 1:25 not-built\n"),
-    ("int main(void) { return (a || b) * (c ? d : e); }", "refused U0 1:25 not-built\n"),
-    // Operators before an operand (C11 6.5.3, 6.5.4).
-    ("int main(void) { return &x; }", "refused U0 1:25 not-built\n"),
-    ("int main(void) { return *x; }", "refused U0 1:25 not-built\n"),
-    ("int main(void) { return +x; }", "refused U0 1:25 not-built\n"),
-    ("int main(void) { return -x; }", "refused U0 1:25 not-built\n"),
-    ("int main(void) { return ~x; }", "refused U0 1:25 not-built\n"),
-    ("int main(void) { return !x; }", "refused U0 1:25 not-built\n"),
-    ("int main(void) { return - -x; }", "refused U0 1:25 not-built\n"),
-    ("int main(void) { return -; }", "refused U7 1:26 ;\n"),
-    ("int main(void) { return !) }", "refused U7 1:26 )\n"),
-    ("int main(void) { return %x; }", "refused U7 1:25 %\n"),
-    ("int main(void) { return sizeof(int); }", "refused U0 1:25 not-built\n"),
-    ("int main(void) { return sizeof(x + 1); }", "refused U0 1:25 not-built\n"),
-    ("int main(void) { return sizeof(int *); }", "refused U0 1:25 not-built\n"),
-    ("int main(void) { return sizeof x; }", "refused U7 1:32 x\n"),
-    ("int main(void) { return sizeof(); }", "refused U7 1:32 )\n"),
-    ("int main(void) { return sizeof(int; }", "refused U7 1:35 ;\n"),
-    ("int main(void) { return sizeof(int x); }", "refused U7 1:36 x\n"),
-    ("int main(void) { return sizeof(x; }", "refused U7 1:33 ;\n"),
-    ("int main(void) { return (int)x; }", "refused U0 1:25 not-built\n"),
-    ("int main(void) { return (int *)x; }", "refused U0 1:25 not-built\n"),
-    ("static mtx_t m; int main(void) { (void)x; }", "refused U0 1:40 not-built\n"),
-    ("static mtx_t m; int main(void) { (int)x; }", "refused U0 1:35 not-built\n"),
-    ("int main(void) { return (int); }", "refused U7 1:30 ;\n"),
-    ("int main(void) { return (int x; }", "refused U7 1:30 x\n"),
-    ("int main(void) { return (int){ 1 }; }", "refused U7 1:30 {\n"),
-    ("int main(void) { return (); }", "refused U7 1:26 )\n"),
-    ("int main(void) { return (int[2])x; }", "refused U7 1:29 [\n"),
-    // Operands and what stands behind them (C11 6.5.1, 6.5.2).
-    ("int main(void) { return (x); }", "refused U0 1:25 not-built\n"),
-    ("int main(void) { return (x)[0].a->b(1); }", "refused U0 1:25 not-built\n"),
-    ("int main(void) { return (x; }", "refused U7 1:27 ;\n"),
-    ("int main(void) { return (x y); }", "refused U7 1:28 y\n"),
-    ("int main(void) { return (x, y); }", "refused U7 1:27 ,\n"),
-    ("int main(void) { return x[1][2]; }", "refused U0 1:25 not-built\n"),
-    ("int main(void) { return x[]; }", "refused U7 1:27 ]\n"),
-    ("int main(void) { return x[1; }", "refused U7 1:28 ;\n"),
-    ("int main(void) { return f(); }", "refused U0 1:25 not-built\n"),
-    ("int main(void) { return f(1, 2); }", "refused U0 1:25 not-built\n"),
-    ("int main(void) { return f(, 1); }", "refused U7 1:27 ,\n"),
-    ("int main(void) { return f(1,); }", "refused U7 1:29 )\n"),
-    ("int main(void) { return f(1 2); }", "refused U7 1:29 2\n"),
-    ("int main(void) { return s.a; }", "refused U0 1:25 not-built\n"),
-    ("int main(void) { return s. 1; }", "refused U7 1:28 1\n"),
-    ("int main(void) { return s.; }", "refused U7 1:27 ;\n"),
-    ("int main(void) { return s.1; }", "refused U6 1:26 floating\n"),
-    ("int main(void) { return p->a; }", "refused U0 1:25 not-built\n"),
-    ("int main(void) { return p->*; }", "refused U7 1:28 *\n"),
-    ("typedef int t; int f(void) { return s.t; }", "refused U0 1:1 not-built\n"),
-    ("typedef int t; int f(void) { return t; }", "refused U7 1:37 t\n"),
-    ("int main(void) { return 1[x]; }", "refused U0 1:25 not-built\n"),
-    ("int main(void) { return 'a'; }", "refused U0 1:25 not-built\n"),
-    ("int main(void) { return \"a\"; }", "refused U6 1:25 string\n"),
-    ("int main(void) { return 1.5; }", "refused U6 1:25 floating\n"),
-    ("int main(void) { return x 1; }", "refused U7 1:27 1\n"),
-    ("int main(void) { return int; }", "refused U7 1:25 int\n"),
-];
+pub(crate) fn rows() -> &'static str {
+    "\
+// Translation units and external declarations (C11 6.9).
+int x; int y; => U0 1:5 not-built
+int x; ; => U7 1:8 ;
+int x; } => U7 1:8 }
+1 => U7 1:1 1
+main => U7 1:1 main
+typedef int t; t x; => U0 1:1 not-built
+typedef ; => U7 1:9 ;
+typedef int ; => U7 1:13 ;
+typedef int t, u; => U7 1:14 ,
+typedef int t[2]; => U7 1:14 [
+typedef int t => U7 1:14 end
+struct s; => U0 1:1 not-built
+; => U7 1:1 ;
+int ; => U0 1:5 not-built
+int ) => U7 1:5 )
+void f(void); => U0 1:1 not-built
+void f(void) { } => U0 1:1 not-built
+void f() { } => U7 1:8 )
+void f(void; => U7 1:12 ;
+void f(void) int x; => U7 1:14 int
+void f(void) = 1; => U7 1:14 =
+void (*f)(void); => U7 1:6 (
+void f(int a, int *b, int c[], int d[2], int); => U0 1:1 not-built
+void f(int a b); => U7 1:14 b
+void f(int a, ); => U7 1:15 )
+void f(int a[2][2]); => U7 1:16 [
+void f(a); => U7 1:8 a
+void f(int a, ...); => U6 1:15 ...
+void f(int a = 1); => U7 1:14 =
+// Objects, declarators and pointers (C11 6.7, 6.7.6).
+int a, b[2], *c; => U0 1:5 not-built
+int a = 1, b[2] = { 1 }; => U0 1:5 not-built
+int a b; => U7 1:7 b
+int a = ; => U7 1:9 ;
+int a, ; => U7 1:8 ;
+int a[2; => U7 1:8 ;
+int a[]; => U0 1:5 not-built
+int a[2][3]; => U0 1:5 not-built
+int a) => U7 1:6 )
+int a = 1 2; => U7 1:11 2
+int a++; => U7 1:6 ++
+int a[1, 2]; => U7 1:8 ,
+int *p; => U0 1:5 not-built
+int * const * volatile p; => U0 1:5 not-built
+int * static p; => U7 1:7 static
+int * const; => U7 1:12 ;
+int * int p; => U7 1:7 int
+int * restrict p; => U6 1:7 restrict
+// Declaration specifiers (C11 6.7.1 to 6.7.4).
+extern int a; => U0 1:1 not-built
+inline int f(void); => U0 1:1 not-built
+_Thread_local int a; => U0 1:1 not-built
+thread_local int a; => U0 1:1 not-built
+const int a; => U0 1:1 not-built
+volatile int a; => U0 1:1 not-built
+_Atomic int a; => U0 1:1 not-built
+void *a; => U0 1:1 not-built
+char a; => U0 1:1 not-built
+short a; => U0 1:1 not-built
+long a; => U0 1:1 not-built
+signed a; => U0 1:1 not-built
+unsigned a; => U0 1:1 not-built
+_Bool a; => U0 1:1 not-built
+bool a; => U0 1:1 not-built
+mtx_t a; => U0 1:1 not-built
+static int a; => U0 1:8 not-built
+static static mtx_t m; => U0 1:8 not-built
+static ; => U0 1:8 not-built
+static a; => U0 1:8 not-built
+union u; => U6 1:1 union
+int goto; => U6 1:5 goto
+double x; => U6 1:1 double
+// Structures (C11 6.7.2.1).
+struct s { int a; }; => U0 1:1 not-built
+struct { int a, *b; char c[2]; } x; => U0 1:1 not-built
+struct s { } x; => U0 1:1 not-built
+struct s x; => U0 1:1 not-built
+struct s *p; => U0 1:1 not-built
+struct s { struct { int a; } b; int c[2][3]; }; => U0 1:1 not-built
+struct ; => U7 1:8 ;
+struct s { int ; }; => U7 1:16 ;
+struct s { int a }; => U7 1:18 }
+struct s { int a[]; }; => U7 1:18 ]
+struct s { int a = 1; }; => U7 1:18 =
+struct s { a; }; => U7 1:12 a
+struct s { int a : 1; }; => U7 1:18 :
+struct s { int a;  => U7 1:19 end
+struct s { int a, ; }; => U7 1:19 ;
+struct int; => U7 1:8 int
+typedef int t; struct t { t a; }; => U0 1:1 not-built
+// Enumerations (C11 6.7.2.2).
+enum e { A, B = 2, C }; => U0 1:1 not-built
+enum { A, }; => U0 1:1 not-built
+enum e x; => U0 1:1 not-built
+enum e { A = 1 } x = A; => U0 1:1 not-built
+enum e { }; => U7 1:10 }
+enum e { A B }; => U7 1:12 B
+enum e { A = , B }; => U7 1:14 ,
+enum e { A, , B }; => U7 1:13 ,
+enum ; => U7 1:6 ;
+enum e { 2 }; => U7 1:10 2
+enum e { A = 1 = 2 }; => U7 1:16 =
+// Initialisers (C11 6.7.9).
+int a[2] = { 1, 2 }; => U0 1:5 not-built
+int a[2] = { 1, 2, }; => U0 1:5 not-built
+int a[2][2] = { { 1, 2 }, { 3, 4 } }; => U0 1:5 not-built
+int a[2] = { }; => U7 1:14 }
+int a[2] = { 1 2 }; => U7 1:16 2
+int a[2] = { 1, , 2 }; => U7 1:17 ,
+int a = { . x = 1 }; => U7 1:11 .
+int a[1] = { [0] = 1 }; => U7 1:14 [
+int a = { 1 ; => U7 1:13 ;
+int a = { 1 } + 1; => U7 1:15 +
+// Blocks (C11 6.8.2).
+int main(void) { { } return 0; } => U0 1:18 not-built
+int main(void) { int a; return 0; } => U0 1:18 not-built
+int main(void) { int a = 1, *b[2]; return 0; } => U0 1:18 not-built
+int main(void) { struct s; return 0; } => U0 1:18 not-built
+int main(void) { int; return 0; } => U0 1:18 not-built
+int main(void) { static int a = { 1 }; return 0; } => U0 1:18 not-built
+int main(void) { int f(void); } => U7 1:23 (
+int main(void) { typedef int t; } => U7 1:18 typedef
+int main(void) { return 0; return 0; } => U0 1:28 not-built
+int main(void) { break; } => U0 1:18 not-built
+int main(void) {  => U7 1:18 end
+int main(void) { } } => U7 1:20 }
+int main(void) { int { } } => U7 1:22 {
+// Statements that choose (C11 6.8.4).
+int main(void) { if (1) { } return 0; } => U0 1:18 not-built
+int main(void) { if (1) { } else { } } => U0 1:18 not-built
+int main(void) { if (1) { } else if (2) { } else { } } => U0 1:18 not-built
+int main(void) { if (1) return 0; } => U7 1:25 return
+int main(void) { if 1) { } } => U7 1:21 1
+int main(void) { if () { } } => U7 1:22 )
+int main(void) { if (1) { } else ; } => U7 1:34 ;
+int main(void) { else { } } => U7 1:18 else
+int main(void) { if (1 { } } => U7 1:24 {
+int main(void) { if (x = 1) { } } => U7 1:24 =
+int main(void) { switch (x) { } } => U0 1:18 not-built
+int main(void) { switch (x) { case 1: break; } } => U0 1:18 not-built
+int main(void) { switch (x) { case 1: case 2: x = 1; break; default: return 0; } } => U0 1:18 not-built
+int main(void) { switch (x) { case 1: x = 1; case 2: break; } } => U7 1:46 case
+int main(void) { switch (x) { case 1: } } => U7 1:39 }
+int main(void) { switch (x) { x = 1; } } => U7 1:31 x
+int main(void) { switch (x) { default: break; case 1: break; } } => U7 1:47 case
+int main(void) { switch (x) { case : break; } } => U7 1:36 :
+int main(void) { switch (x) case 1: break; } => U7 1:29 case
+int main(void) { switch (x) { default; } } => U7 1:38 ;
+int main(void) { switch (x) { case 1: break; break; } } => U7 1:46 break
+int main(void) { switch (x) { case 1: int a; break; } } => U7 1:39 int
+int main(void) { case 1: break; } => U7 1:18 case
+int main(void) { switch (x) { case 1: case 2; } } => U7 1:45 ;
+// Loops and jumps (C11 6.8.5, 6.8.6).
+int main(void) { while (1) { } } => U0 1:18 not-built
+int main(void) { while (1) ; } => U7 1:28 ;
+int main(void) { while () { } } => U7 1:25 )
+int main(void) { while x { } } => U7 1:24 x
+int main(void) { do { } while (1); } => U0 1:18 not-built
+int main(void) { do x; while (1); } => U7 1:21 x
+int main(void) { do { } while (1)  } => U7 1:36 }
+int main(void) { do { } return 0; } => U7 1:25 return
+int main(void) { for (;;) { } } => U0 1:18 not-built
+int main(void) { for (int i = 0; i < 2; i++) { } } => U0 1:18 not-built
+int main(void) { for (i = 0; ; ++i) { } } => U0 1:18 not-built
+int main(void) { for (i; i; i) { } } => U0 1:18 not-built
+int main(void) { for (const int *p = &x; ; ) { } } => U0 1:18 not-built
+int main(void) { for (int i; ;) { } } => U7 1:28 ;
+int main(void) { for (;) { } } => U7 1:24 )
+int main(void) { for (;;) x; } => U7 1:27 x
+int main(void) { for (int i = 0, j = 0; ;) { } } => U7 1:32 ,
+int main(void) { for (; ; int k = 0) { } } => U7 1:27 int
+int main(void) { for (; x = 1;) { } } => U7 1:27 =
+int main(void) { for ;;) { } } => U7 1:22 ;
+int main(void) { continue; } => U0 1:18 not-built
+int main(void) { continue 1; } => U7 1:27 1
+int main(void) { break x; } => U7 1:24 x
+int main(void) { return ; } => U0 1:25 not-built
+int main(void) { return 1; } => U0 1:25 not-built
+int main(void) { return 0 + 1; } => U0 1:27 not-built
+int main(void) { return 0  } => U7 1:28 }
+int main(void) { return return; } => U7 1:25 return
+int main(void) { goto end; } => U6 1:18 goto
+int main(void) { ; } => U0 1:18 not-built
+int main(void) { x : ; } => U7 1:20 :
+// Assignments and steps (C11 6.5.16, 6.5.2.4, 6.5.3.1).
+int main(void) { ++x; } => U0 1:18 not-built
+int main(void) { --x; } => U0 1:18 not-built
+int main(void) { x++; } => U0 1:18 not-built
+int main(void) { x--; } => U0 1:18 not-built
+int main(void) { (*p)++; } => U0 1:18 not-built
+int main(void) { *p++; } => U0 1:18 not-built
+int main(void) { x = 1; } => U0 1:18 not-built
+int main(void) { x *= 1; x /= 1; x %= 1; x += 1; x -= 1; } => U0 1:18 not-built
+int main(void) { x <<= 1; x >>= 1; x &= 1; x ^= 1; x |= 1; } => U0 1:18 not-built
+int main(void) { x = y = 1; } => U7 1:24 =
+int main(void) { x++ ++; } => U7 1:22 ++
+int main(void) { ++; } => U7 1:20 ;
+int main(void) { ++ ++x; } => U7 1:21 ++
+int main(void) { x y; } => U7 1:20 y
+int main(void) { x = ; } => U7 1:22 ;
+int main(void) { x , y; } => U7 1:20 ,
+int main(void) { x = y++; } => U7 1:23 ++
+int main(void) { ++x = 1; } => U7 1:22 =
+int main(void) { --x--; } => U7 1:21 --
+int main(void) { x += += 1; } => U7 1:23 +=
+int main(void) { return x++; } => U7 1:26 ++
+int main(void) { f(); f(1); } => U0 1:18 not-built
+// Conditions and operators (C11 6.5.5 to 6.5.15).
+int main(void) { return x ? 1 : 2; } => U0 1:25 not-built
+int main(void) { return x ? y ? 1 : 2 : 3; } => U0 1:25 not-built
+int main(void) { return x ? 1 : y ? 2 : 3; } => U0 1:25 not-built
+int main(void) { return x ? 1 ; } => U7 1:31 ;
+int main(void) { return x : 1; } => U7 1:27 :
+int main(void) { return x ? : 1; } => U7 1:29 :
+int main(void) { return x ? 1 : ; } => U7 1:33 ;
+int main(void) { return a || b || b; } => U0 1:25 not-built
+int main(void) { return a && b && b; } => U0 1:25 not-built
+int main(void) { return a | b | b; } => U0 1:25 not-built
+int main(void) { return a ^ b ^ b; } => U0 1:25 not-built
+int main(void) { return a & b & b; } => U0 1:25 not-built
+int main(void) { return a == b != b == b; } => U0 1:25 not-built
+int main(void) { return a < b > b <= b >= b < b; } => U0 1:25 not-built
+int main(void) { return a << b >> b << b; } => U0 1:25 not-built
+int main(void) { return a + b - b + b; } => U0 1:25 not-built
+int main(void) { return a * b / b % b * b; } => U0 1:25 not-built
+int main(void) { return a || ; } => U7 1:30 ;
+int main(void) { return a && || b; } => U7 1:30 ||
+int main(void) { return a | ^ b; } => U7 1:29 ^
+int main(void) { return a ^ ; } => U7 1:29 ;
+int main(void) { return a & / b; } => U7 1:29 /
+int main(void) { return a == != b; } => U7 1:30 !=
+int main(void) { return a < > b; } => U7 1:29 >
+int main(void) { return a << >> b; } => U7 1:30 >>
+int main(void) { return a + / b; } => U7 1:29 /
+int main(void) { return a * % b; } => U7 1:29 %
+int main(void) { return == a; } => U7 1:25 ==
+int main(void) { return a + b * c << 1 < d == e & f ^ g | h && i || j; } => U0 1:25 not-built
+int main(void) { return (a || b) * (c ? d : e); } => U0 1:25 not-built
+// Operators before an operand (C11 6.5.3, 6.5.4).
+int main(void) { return &x; } => U0 1:25 not-built
+int main(void) { return *x; } => U0 1:25 not-built
+int main(void) { return +x; } => U0 1:25 not-built
+int main(void) { return -x; } => U0 1:25 not-built
+int main(void) { return ~x; } => U0 1:25 not-built
+int main(void) { return !x; } => U0 1:25 not-built
+int main(void) { return - -x; } => U0 1:25 not-built
+int main(void) { return -; } => U7 1:26 ;
+int main(void) { return !) } => U7 1:26 )
+int main(void) { return %x; } => U7 1:25 %
+int main(void) { return sizeof(int); } => U0 1:25 not-built
+int main(void) { return sizeof(x + 1); } => U0 1:25 not-built
+int main(void) { return sizeof(int *); } => U0 1:25 not-built
+int main(void) { return sizeof x; } => U7 1:32 x
+int main(void) { return sizeof(); } => U7 1:32 )
+int main(void) { return sizeof(int; } => U7 1:35 ;
+int main(void) { return sizeof(int x); } => U7 1:36 x
+int main(void) { return sizeof(x; } => U7 1:33 ;
+int main(void) { return (int)x; } => U0 1:25 not-built
+int main(void) { return (int *)x; } => U0 1:25 not-built
+static mtx_t m; int main(void) { (void)x; } => U0 1:40 not-built
+static mtx_t m; int main(void) { (int)x; } => U0 1:35 not-built
+int main(void) { return (int); } => U7 1:30 ;
+int main(void) { return (int x; } => U7 1:30 x
+int main(void) { return (int){ 1 }; } => U7 1:30 {
+int main(void) { return (); } => U7 1:26 )
+int main(void) { return (int[2])x; } => U7 1:29 [
+// Operands and what stands behind them (C11 6.5.1, 6.5.2).
+int main(void) { return (x); } => U0 1:25 not-built
+int main(void) { return (x)[0].a->b(1); } => U0 1:25 not-built
+int main(void) { return (x; } => U7 1:27 ;
+int main(void) { return (x y); } => U7 1:28 y
+int main(void) { return (x, y); } => U7 1:27 ,
+int main(void) { return x[1][2]; } => U0 1:25 not-built
+int main(void) { return x[]; } => U7 1:27 ]
+int main(void) { return x[1; } => U7 1:28 ;
+int main(void) { return f(); } => U0 1:25 not-built
+int main(void) { return f(1, 2); } => U0 1:25 not-built
+int main(void) { return f(, 1); } => U7 1:27 ,
+int main(void) { return f(1,); } => U7 1:29 )
+int main(void) { return f(1 2); } => U7 1:29 2
+int main(void) { return s.a; } => U0 1:25 not-built
+int main(void) { return s. 1; } => U7 1:28 1
+int main(void) { return s.; } => U7 1:27 ;
+int main(void) { return s.1; } => U6 1:26 floating
+int main(void) { return p->a; } => U0 1:25 not-built
+int main(void) { return p->*; } => U7 1:28 *
+typedef int t; int f(void) { return s.t; } => U0 1:1 not-built
+typedef int t; int f(void) { return t; } => U7 1:37 t
+int main(void) { return 1[x]; } => U0 1:25 not-built
+int main(void) { return 'a'; } => U0 1:25 not-built
+int main(void) { return \"a\"; } => U6 1:25 string
+int main(void) { return 1.5; } => U6 1:25 floating
+int main(void) { return x 1; } => U7 1:27 1
+int main(void) { return int; } => U7 1:25 int
+"
+}
