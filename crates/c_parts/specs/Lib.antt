@@ -1,4 +1,5 @@
 pub mod Chains
+pub mod GroupedKinds
 pub mod Kinds
 pub mod PartData
 pub mod PartViews

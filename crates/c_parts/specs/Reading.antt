@@ -15,84 +15,85 @@ use Rattle.c_parts.specs.declared.expression_part.InfixOperator.{InfixOperator}
 use Rattle.c_parts.specs.declared.expression_part.PrefixOperator.{PrefixOperator}
 use Rattle.c_parts.specs.declared.expression_part.AssignmentSign.{AssignmentSign}
 use Rattle.c_parts.specs.declared.expression_part.StepSign.{StepSign}
+use Rattle.c_parts.specs.GroupedKinds as Grouped
 use Rattle.c_parts.specs.Kinds
 use Rattle.c_parts.specs.PartData
 
-abbrev pub expression_kind : PartData.ExpressionPart → Kinds.Kind
-expression_kind (PartData.operand x) = Kinds.operand
-expression_kind (PartData.optional_expression x) = Kinds.optional_expression
-expression_kind (PartData.infix_operator x) = Kinds.infix_operator
-expression_kind (PartData.operations x) = Kinds.operations
-expression_kind (PartData.prefix_operator x) = Kinds.prefix_operator
-expression_kind (PartData.postfix x) = Kinds.postfix
-expression_kind (PartData.postfixes x) = Kinds.postfixes
-expression_kind (PartData.arguments x) = Kinds.arguments
-expression_kind (PartData.type_name x) = Kinds.type_name
-expression_kind (PartData.branches x) = Kinds.branches
-expression_kind (PartData.sizeof_operand x) = Kinds.sizeof_operand
-expression_kind (PartData.bracketed x) = Kinds.bracketed
-expression_kind (PartData.assignment_sign x) = Kinds.assignment_sign
-expression_kind (PartData.step_sign x) = Kinds.step_sign
+abbrev pub expression_kind : PartData.ExpressionPart → Grouped.ExpressionKind
+expression_kind (PartData.operand x) = Grouped.operand
+expression_kind (PartData.optional_expression x) = Grouped.optional_expression
+expression_kind (PartData.infix_operator x) = Grouped.infix_operator
+expression_kind (PartData.operations x) = Grouped.operations
+expression_kind (PartData.prefix_operator x) = Grouped.prefix_operator
+expression_kind (PartData.postfix x) = Grouped.postfix
+expression_kind (PartData.postfixes x) = Grouped.postfixes
+expression_kind (PartData.arguments x) = Grouped.arguments
+expression_kind (PartData.type_name x) = Grouped.type_name
+expression_kind (PartData.branches x) = Grouped.branches
+expression_kind (PartData.sizeof_operand x) = Grouped.sizeof_operand
+expression_kind (PartData.bracketed x) = Grouped.bracketed
+expression_kind (PartData.assignment_sign x) = Grouped.assignment_sign
+expression_kind (PartData.step_sign x) = Grouped.step_sign
 
-abbrev pub declaration_kind : PartData.DeclarationPart → Kinds.Kind
-declaration_kind (PartData.qualifiers x) = Kinds.qualifiers
-declaration_kind (PartData.pointers x) = Kinds.pointers
-declaration_kind (PartData.specifier x) = Kinds.specifier
-declaration_kind (PartData.specifiers x) = Kinds.specifiers
-declaration_kind (PartData.bounds x) = Kinds.bounds
-declaration_kind (PartData.declarator x) = Kinds.declarator
-declaration_kind (PartData.declarators x) = Kinds.declarators
-declaration_kind (PartData.members x) = Kinds.members
-declaration_kind (PartData.optional_members x) = Kinds.optional_members
-declaration_kind (PartData.structure x) = Kinds.structure
-declaration_kind (PartData.enumerators x) = Kinds.enumerators
-declaration_kind (PartData.optional_enumerators x) = Kinds.optional_enumerators
-declaration_kind (PartData.enumeration x) = Kinds.enumeration
-declaration_kind (PartData.initializer x) = Kinds.initializer
-declaration_kind (PartData.initializers x) = Kinds.initializers
-declaration_kind (PartData.initialization x) = Kinds.initialization
-declaration_kind (PartData.init_declarators x) = Kinds.init_declarators
-declaration_kind (PartData.objects x) = Kinds.objects
+abbrev pub declaration_kind : PartData.DeclarationPart → Grouped.DeclarationKind
+declaration_kind (PartData.qualifiers x) = Grouped.qualifiers
+declaration_kind (PartData.pointers x) = Grouped.pointers
+declaration_kind (PartData.specifier x) = Grouped.specifier
+declaration_kind (PartData.specifiers x) = Grouped.specifiers
+declaration_kind (PartData.bounds x) = Grouped.bounds
+declaration_kind (PartData.declarator x) = Grouped.declarator
+declaration_kind (PartData.declarators x) = Grouped.declarators
+declaration_kind (PartData.members x) = Grouped.members
+declaration_kind (PartData.optional_members x) = Grouped.optional_members
+declaration_kind (PartData.structure x) = Grouped.structure
+declaration_kind (PartData.enumerators x) = Grouped.enumerators
+declaration_kind (PartData.optional_enumerators x) = Grouped.optional_enumerators
+declaration_kind (PartData.enumeration x) = Grouped.enumeration
+declaration_kind (PartData.initializer x) = Grouped.initializer
+declaration_kind (PartData.initializers x) = Grouped.initializers
+declaration_kind (PartData.initialization x) = Grouped.initialization
+declaration_kind (PartData.init_declarators x) = Grouped.init_declarators
+declaration_kind (PartData.objects x) = Grouped.objects
 
-abbrev pub external_kind : PartData.ExternalPart → Kinds.Kind
-external_kind (PartData.optional_bound x) = Kinds.optional_bound
-external_kind (PartData.parameter_name x) = Kinds.parameter_name
-external_kind (PartData.parameter x) = Kinds.parameter
-external_kind (PartData.parameters x) = Kinds.parameters
-external_kind (PartData.optional_block x) = Kinds.optional_block
-external_kind (PartData.function_rest x) = Kinds.function_rest
-external_kind (PartData.name_rest x) = Kinds.name_rest
-external_kind (PartData.external_rest x) = Kinds.external_rest
-external_kind (PartData.external x) = Kinds.external
-external_kind (PartData.externals x) = Kinds.externals
+abbrev pub external_kind : PartData.ExternalPart → Grouped.ExternalKind
+external_kind (PartData.optional_bound x) = Grouped.optional_bound
+external_kind (PartData.parameter_name x) = Grouped.parameter_name
+external_kind (PartData.parameter x) = Grouped.parameter
+external_kind (PartData.parameters x) = Grouped.parameters
+external_kind (PartData.optional_block x) = Grouped.optional_block
+external_kind (PartData.function_rest x) = Grouped.function_rest
+external_kind (PartData.name_rest x) = Grouped.name_rest
+external_kind (PartData.external_rest x) = Grouped.external_rest
+external_kind (PartData.external x) = Grouped.external
+external_kind (PartData.externals x) = Grouped.externals
 
-abbrev pub statement_kind : PartData.StatementPart → Kinds.Kind
-statement_kind (PartData.block x) = Kinds.block
-statement_kind (PartData.item x) = Kinds.item
-statement_kind (PartData.items x) = Kinds.items
-statement_kind (PartData.statement x) = Kinds.statement
-statement_kind (PartData.statements x) = Kinds.statements
-statement_kind (PartData.if_statement x) = Kinds.if_statement
-statement_kind (PartData.otherwise x) = Kinds.otherwise
-statement_kind (PartData.otherwise_branch x) = Kinds.otherwise_branch
-statement_kind (PartData.for_start x) = Kinds.for_start
-statement_kind (PartData.optional_for_start x) = Kinds.optional_for_start
-statement_kind (PartData.simple x) = Kinds.simple
-statement_kind (PartData.optional_simple x) = Kinds.optional_simple
-statement_kind (PartData.simple_rest x) = Kinds.simple_rest
-statement_kind (PartData.case_labels x) = Kinds.case_labels
-statement_kind (PartData.clause x) = Kinds.clause
-statement_kind (PartData.clauses x) = Kinds.clauses
-statement_kind (PartData.body x) = Kinds.body
-statement_kind (PartData.optional_body x) = Kinds.optional_body
-statement_kind (PartData.leave x) = Kinds.leave
+abbrev pub statement_kind : PartData.StatementPart → Grouped.StatementKind
+statement_kind (PartData.block x) = Grouped.block
+statement_kind (PartData.item x) = Grouped.item
+statement_kind (PartData.items x) = Grouped.items
+statement_kind (PartData.statement x) = Grouped.statement
+statement_kind (PartData.statements x) = Grouped.statements
+statement_kind (PartData.if_statement x) = Grouped.if_statement
+statement_kind (PartData.otherwise x) = Grouped.otherwise
+statement_kind (PartData.otherwise_branch x) = Grouped.otherwise_branch
+statement_kind (PartData.for_start x) = Grouped.for_start
+statement_kind (PartData.optional_for_start x) = Grouped.optional_for_start
+statement_kind (PartData.simple x) = Grouped.simple
+statement_kind (PartData.optional_simple x) = Grouped.optional_simple
+statement_kind (PartData.simple_rest x) = Grouped.simple_rest
+statement_kind (PartData.case_labels x) = Grouped.case_labels
+statement_kind (PartData.clause x) = Grouped.clause
+statement_kind (PartData.clauses x) = Grouped.clauses
+statement_kind (PartData.body x) = Grouped.body
+statement_kind (PartData.optional_body x) = Grouped.optional_body
+statement_kind (PartData.leave x) = Grouped.leave
 
 abbrev pub kind_of : PartData.PartData → Kinds.Kind
 kind_of (PartData.leaf w) = Kinds.leaf
-kind_of (PartData.expression_part p) = expression_kind p
-kind_of (PartData.declaration_part p) = declaration_kind p
-kind_of (PartData.external_part p) = external_kind p
-kind_of (PartData.statement_part p) = statement_kind p
+kind_of (PartData.expression_part p) = Kinds.of_expression (expression_kind p)
+kind_of (PartData.declaration_part p) = Kinds.of_declaration (declaration_kind p)
+kind_of (PartData.external_part p) = Kinds.of_external (external_kind p)
+kind_of (PartData.statement_part p) = Kinds.of_statement (statement_kind p)
 
 -- ---- where there is nothing
 

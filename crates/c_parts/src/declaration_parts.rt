@@ -3,7 +3,8 @@ ghost use Rattle.std.specs.Option.{option_map};
 ghost use Rattle.c_program.specs.Views.{bound_view, declarator_view, enumerator_view, member_view, pointers_view, specifier_view};
 ghost use Rattle.c_program.specs.StatementViews.{init_declarator_view, initialization_view, initializer_view};
 ghost use Rattle.c_parts.specs.Kinds;
-ghost use Rattle.c_parts.specs.PartViews.{enumeration_view, objects_view, structure_view, parts_view};
+ghost use Rattle.c_parts.specs.PartData;
+ghost use Rattle.c_parts.specs.PartViews.{declaration_part_view, enumeration_view, objects_view, structure_view, parts_view};
 ghost use Rattle.c_parts.specs.Reading.{first, rest, kind_of, qualifiers_of, pointers_of, specifier_of, specifiers_of, bounds_of, declarator_of, declarators_of, members_of, optional_members_of, structure_of, enumerators_of, optional_enumerators_of, enumeration_of, initializer_of, initializers_of, initialization_of, init_declarators_of, objects_of};
 
 use crate::chain::Chain;
@@ -16,14 +17,26 @@ use c_program::{
 };
 
 impl<'a> Parts<'a> {
+    /// Takes the first part: of a declaration.
+    fn declaration_part(&mut self) -> DeclarationPart
+        requires { Kinds.IsDeclaration (kind_of (first (parts_view self.now))) }
+        ensures part { PartData.declaration_part (declaration_part_view result) ≡ first (parts_view self.old) }
+        ensures rest { parts_view self.new ≡ rest (parts_view self.old) }
+    {
+        match self.next() {
+            Part::Declaration(part) => part,
+            _ => unreachable!(),
+        }
+    }
+
     /// Takes the first part: the qualifiers of a pointer.
     pub fn qualifiers(&mut self) -> Chain<Qualifier>
         requires { kind_of (first (parts_view self.now)) ≡ Kinds.qualifiers }
         ensures result { result ≡ qualifiers_of (first (parts_view self.old)) }
         ensures rest { parts_view self.new ≡ rest (parts_view self.old) }
     {
-        match self.next() {
-            Part::Declaration(DeclarationPart::Qualifiers(part)) => part,
+        match self.declaration_part() {
+            DeclarationPart::Qualifiers(part) => part,
             _ => unreachable!(),
         }
     }
@@ -34,8 +47,8 @@ impl<'a> Parts<'a> {
         ensures result { pointers_view result ≡ pointers_of (first (parts_view self.old)) }
         ensures rest { parts_view self.new ≡ rest (parts_view self.old) }
     {
-        match self.next() {
-            Part::Declaration(DeclarationPart::Pointers(part)) => part,
+        match self.declaration_part() {
+            DeclarationPart::Pointers(part) => part,
             _ => unreachable!(),
         }
     }
@@ -46,8 +59,8 @@ impl<'a> Parts<'a> {
         ensures result { specifier_view result ≡ specifier_of (first (parts_view self.old)) }
         ensures rest { parts_view self.new ≡ rest (parts_view self.old) }
     {
-        match self.next() {
-            Part::Declaration(DeclarationPart::Specifier(part)) => part,
+        match self.declaration_part() {
+            DeclarationPart::Specifier(part) => part,
             _ => unreachable!(),
         }
     }
@@ -58,8 +71,8 @@ impl<'a> Parts<'a> {
         ensures result { map specifier_view result ≡ specifiers_of (first (parts_view self.old)) }
         ensures rest { parts_view self.new ≡ rest (parts_view self.old) }
     {
-        match self.next() {
-            Part::Declaration(DeclarationPart::Specifiers(part)) => part,
+        match self.declaration_part() {
+            DeclarationPart::Specifiers(part) => part,
             _ => unreachable!(),
         }
     }
@@ -70,8 +83,8 @@ impl<'a> Parts<'a> {
         ensures result { map bound_view result ≡ bounds_of (first (parts_view self.old)) }
         ensures rest { parts_view self.new ≡ rest (parts_view self.old) }
     {
-        match self.next() {
-            Part::Declaration(DeclarationPart::Bounds(part)) => part,
+        match self.declaration_part() {
+            DeclarationPart::Bounds(part) => part,
             _ => unreachable!(),
         }
     }
@@ -82,8 +95,8 @@ impl<'a> Parts<'a> {
         ensures result { declarator_view result ≡ declarator_of (first (parts_view self.old)) }
         ensures rest { parts_view self.new ≡ rest (parts_view self.old) }
     {
-        match self.next() {
-            Part::Declaration(DeclarationPart::Declarator(part)) => part,
+        match self.declaration_part() {
+            DeclarationPart::Declarator(part) => part,
             _ => unreachable!(),
         }
     }
@@ -94,8 +107,8 @@ impl<'a> Parts<'a> {
         ensures result { map declarator_view result ≡ declarators_of (first (parts_view self.old)) }
         ensures rest { parts_view self.new ≡ rest (parts_view self.old) }
     {
-        match self.next() {
-            Part::Declaration(DeclarationPart::Declarators(part)) => part,
+        match self.declaration_part() {
+            DeclarationPart::Declarators(part) => part,
             _ => unreachable!(),
         }
     }
@@ -106,8 +119,8 @@ impl<'a> Parts<'a> {
         ensures result { map member_view result ≡ members_of (first (parts_view self.old)) }
         ensures rest { parts_view self.new ≡ rest (parts_view self.old) }
     {
-        match self.next() {
-            Part::Declaration(DeclarationPart::Members(part)) => part,
+        match self.declaration_part() {
+            DeclarationPart::Members(part) => part,
             _ => unreachable!(),
         }
     }
@@ -118,8 +131,8 @@ impl<'a> Parts<'a> {
         ensures result { option_map (map member_view) result ≡ optional_members_of (first (parts_view self.old)) }
         ensures rest { parts_view self.new ≡ rest (parts_view self.old) }
     {
-        match self.next() {
-            Part::Declaration(DeclarationPart::OptionalMembers(part)) => part,
+        match self.declaration_part() {
+            DeclarationPart::OptionalMembers(part) => part,
             _ => unreachable!(),
         }
     }
@@ -130,8 +143,8 @@ impl<'a> Parts<'a> {
         ensures result { structure_view result ≡ structure_of (first (parts_view self.old)) }
         ensures rest { parts_view self.new ≡ rest (parts_view self.old) }
     {
-        match self.next() {
-            Part::Declaration(DeclarationPart::Structure(part)) => part,
+        match self.declaration_part() {
+            DeclarationPart::Structure(part) => part,
             _ => unreachable!(),
         }
     }
@@ -142,8 +155,8 @@ impl<'a> Parts<'a> {
         ensures result { map enumerator_view result ≡ enumerators_of (first (parts_view self.old)) }
         ensures rest { parts_view self.new ≡ rest (parts_view self.old) }
     {
-        match self.next() {
-            Part::Declaration(DeclarationPart::Enumerators(part)) => part,
+        match self.declaration_part() {
+            DeclarationPart::Enumerators(part) => part,
             _ => unreachable!(),
         }
     }
@@ -154,8 +167,8 @@ impl<'a> Parts<'a> {
         ensures result { option_map (map enumerator_view) result ≡ optional_enumerators_of (first (parts_view self.old)) }
         ensures rest { parts_view self.new ≡ rest (parts_view self.old) }
     {
-        match self.next() {
-            Part::Declaration(DeclarationPart::OptionalEnumerators(part)) => part,
+        match self.declaration_part() {
+            DeclarationPart::OptionalEnumerators(part) => part,
             _ => unreachable!(),
         }
     }
@@ -166,8 +179,8 @@ impl<'a> Parts<'a> {
         ensures result { enumeration_view result ≡ enumeration_of (first (parts_view self.old)) }
         ensures rest { parts_view self.new ≡ rest (parts_view self.old) }
     {
-        match self.next() {
-            Part::Declaration(DeclarationPart::Enumeration(part)) => part,
+        match self.declaration_part() {
+            DeclarationPart::Enumeration(part) => part,
             _ => unreachable!(),
         }
     }
@@ -178,8 +191,8 @@ impl<'a> Parts<'a> {
         ensures result { initializer_view result ≡ initializer_of (first (parts_view self.old)) }
         ensures rest { parts_view self.new ≡ rest (parts_view self.old) }
     {
-        match self.next() {
-            Part::Declaration(DeclarationPart::Initializer(part)) => part,
+        match self.declaration_part() {
+            DeclarationPart::Initializer(part) => part,
             _ => unreachable!(),
         }
     }
@@ -190,8 +203,8 @@ impl<'a> Parts<'a> {
         ensures result { map initializer_view result ≡ initializers_of (first (parts_view self.old)) }
         ensures rest { parts_view self.new ≡ rest (parts_view self.old) }
     {
-        match self.next() {
-            Part::Declaration(DeclarationPart::Initializers(part)) => part,
+        match self.declaration_part() {
+            DeclarationPart::Initializers(part) => part,
             _ => unreachable!(),
         }
     }
@@ -202,8 +215,8 @@ impl<'a> Parts<'a> {
         ensures result { option_map initialization_view result ≡ initialization_of (first (parts_view self.old)) }
         ensures rest { parts_view self.new ≡ rest (parts_view self.old) }
     {
-        match self.next() {
-            Part::Declaration(DeclarationPart::Initialization(part)) => part,
+        match self.declaration_part() {
+            DeclarationPart::Initialization(part) => part,
             _ => unreachable!(),
         }
     }
@@ -214,8 +227,8 @@ impl<'a> Parts<'a> {
         ensures result { map init_declarator_view result ≡ init_declarators_of (first (parts_view self.old)) }
         ensures rest { parts_view self.new ≡ rest (parts_view self.old) }
     {
-        match self.next() {
-            Part::Declaration(DeclarationPart::InitDeclarators(part)) => part,
+        match self.declaration_part() {
+            DeclarationPart::InitDeclarators(part) => part,
             _ => unreachable!(),
         }
     }
@@ -226,8 +239,8 @@ impl<'a> Parts<'a> {
         ensures result { objects_view result ≡ objects_of (first (parts_view self.old)) }
         ensures rest { parts_view self.new ≡ rest (parts_view self.old) }
     {
-        match self.next() {
-            Part::Declaration(DeclarationPart::Objects(part)) => part,
+        match self.declaration_part() {
+            DeclarationPart::Objects(part) => part,
             _ => unreachable!(),
         }
     }

@@ -2,7 +2,8 @@ ghost use Rattle.std.specs.Prelude.{◌≡◌, map};
 ghost use Rattle.std.specs.Option.{option_map};
 ghost use Rattle.c_program.specs.Views.{expression_view, operation_view, postfix_view, type_name_view};
 ghost use Rattle.c_parts.specs.Kinds;
-ghost use Rattle.c_parts.specs.PartViews.{bracketed_view, branches_view, operand_view, sizeof_operand_view, parts_view};
+ghost use Rattle.c_parts.specs.PartData;
+ghost use Rattle.c_parts.specs.PartViews.{expression_part_view, bracketed_view, branches_view, operand_view, sizeof_operand_view, parts_view};
 ghost use Rattle.c_parts.specs.Reading.{first, rest, kind_of, operand_of, optional_expression_of, infix_operator_of, operations_of, prefix_operator_of, postfix_of, postfixes_of, arguments_of, type_name_of, branches_of, sizeof_operand_of, bracketed_of, assignment_sign_of, step_sign_of};
 
 use crate::chain::Chain;
@@ -15,14 +16,26 @@ use crate::parts::Parts;
 use c_program::{Expression, Operation, Postfix, TypeName};
 
 impl<'a> Parts<'a> {
+    /// Takes the first part: an expression or what stands in one.
+    fn expression_part(&mut self) -> ExpressionPart
+        requires { Kinds.IsExpression (kind_of (first (parts_view self.now))) }
+        ensures part { PartData.expression_part (expression_part_view result) ≡ first (parts_view self.old) }
+        ensures rest { parts_view self.new ≡ rest (parts_view self.old) }
+    {
+        match self.next() {
+            Part::Expression(part) => part,
+            _ => unreachable!(),
+        }
+    }
+
     /// Takes the first part: an expression.
     pub fn operand(&mut self) -> Operand
         requires { kind_of (first (parts_view self.now)) ≡ Kinds.operand }
         ensures result { operand_view result ≡ operand_of (first (parts_view self.old)) }
         ensures rest { parts_view self.new ≡ rest (parts_view self.old) }
     {
-        match self.next() {
-            Part::Expression(ExpressionPart::Operand(part)) => part,
+        match self.expression_part() {
+            ExpressionPart::Operand(part) => part,
             _ => unreachable!(),
         }
     }
@@ -33,8 +46,8 @@ impl<'a> Parts<'a> {
         ensures result { option_map expression_view result ≡ optional_expression_of (first (parts_view self.old)) }
         ensures rest { parts_view self.new ≡ rest (parts_view self.old) }
     {
-        match self.next() {
-            Part::Expression(ExpressionPart::OptionalExpression(part)) => part,
+        match self.expression_part() {
+            ExpressionPart::OptionalExpression(part) => part,
             _ => unreachable!(),
         }
     }
@@ -45,8 +58,8 @@ impl<'a> Parts<'a> {
         ensures result { result ≡ infix_operator_of (first (parts_view self.old)) }
         ensures rest { parts_view self.new ≡ rest (parts_view self.old) }
     {
-        match self.next() {
-            Part::Expression(ExpressionPart::InfixOperator(part)) => part,
+        match &self.expression_part() {
+            ExpressionPart::InfixOperator(operator) => *operator,
             _ => unreachable!(),
         }
     }
@@ -57,8 +70,8 @@ impl<'a> Parts<'a> {
         ensures result { map operation_view result ≡ operations_of (first (parts_view self.old)) }
         ensures rest { parts_view self.new ≡ rest (parts_view self.old) }
     {
-        match self.next() {
-            Part::Expression(ExpressionPart::Operations(part)) => part,
+        match self.expression_part() {
+            ExpressionPart::Operations(part) => part,
             _ => unreachable!(),
         }
     }
@@ -69,8 +82,8 @@ impl<'a> Parts<'a> {
         ensures result { result ≡ prefix_operator_of (first (parts_view self.old)) }
         ensures rest { parts_view self.new ≡ rest (parts_view self.old) }
     {
-        match self.next() {
-            Part::Expression(ExpressionPart::PrefixOperator(part)) => part,
+        match &self.expression_part() {
+            ExpressionPart::PrefixOperator(operator) => *operator,
             _ => unreachable!(),
         }
     }
@@ -81,8 +94,8 @@ impl<'a> Parts<'a> {
         ensures result { postfix_view result ≡ postfix_of (first (parts_view self.old)) }
         ensures rest { parts_view self.new ≡ rest (parts_view self.old) }
     {
-        match self.next() {
-            Part::Expression(ExpressionPart::Postfix(part)) => part,
+        match self.expression_part() {
+            ExpressionPart::Postfix(part) => part,
             _ => unreachable!(),
         }
     }
@@ -93,8 +106,8 @@ impl<'a> Parts<'a> {
         ensures result { map postfix_view result ≡ postfixes_of (first (parts_view self.old)) }
         ensures rest { parts_view self.new ≡ rest (parts_view self.old) }
     {
-        match self.next() {
-            Part::Expression(ExpressionPart::Postfixes(part)) => part,
+        match self.expression_part() {
+            ExpressionPart::Postfixes(part) => part,
             _ => unreachable!(),
         }
     }
@@ -105,8 +118,8 @@ impl<'a> Parts<'a> {
         ensures result { map expression_view result ≡ arguments_of (first (parts_view self.old)) }
         ensures rest { parts_view self.new ≡ rest (parts_view self.old) }
     {
-        match self.next() {
-            Part::Expression(ExpressionPart::Arguments(part)) => part,
+        match self.expression_part() {
+            ExpressionPart::Arguments(part) => part,
             _ => unreachable!(),
         }
     }
@@ -117,8 +130,8 @@ impl<'a> Parts<'a> {
         ensures result { type_name_view result ≡ type_name_of (first (parts_view self.old)) }
         ensures rest { parts_view self.new ≡ rest (parts_view self.old) }
     {
-        match self.next() {
-            Part::Expression(ExpressionPart::TypeName(part)) => part,
+        match self.expression_part() {
+            ExpressionPart::TypeName(part) => part,
             _ => unreachable!(),
         }
     }
@@ -129,8 +142,8 @@ impl<'a> Parts<'a> {
         ensures result { option_map branches_view result ≡ branches_of (first (parts_view self.old)) }
         ensures rest { parts_view self.new ≡ rest (parts_view self.old) }
     {
-        match self.next() {
-            Part::Expression(ExpressionPart::Branches(part)) => part,
+        match self.expression_part() {
+            ExpressionPart::Branches(part) => part,
             _ => unreachable!(),
         }
     }
@@ -141,8 +154,8 @@ impl<'a> Parts<'a> {
         ensures result { sizeof_operand_view result ≡ sizeof_operand_of (first (parts_view self.old)) }
         ensures rest { parts_view self.new ≡ rest (parts_view self.old) }
     {
-        match self.next() {
-            Part::Expression(ExpressionPart::SizeofOperand(part)) => part,
+        match self.expression_part() {
+            ExpressionPart::SizeofOperand(part) => part,
             _ => unreachable!(),
         }
     }
@@ -153,8 +166,8 @@ impl<'a> Parts<'a> {
         ensures result { bracketed_view result ≡ bracketed_of (first (parts_view self.old)) }
         ensures rest { parts_view self.new ≡ rest (parts_view self.old) }
     {
-        match self.next() {
-            Part::Expression(ExpressionPart::Bracketed(part)) => part,
+        match self.expression_part() {
+            ExpressionPart::Bracketed(part) => part,
             _ => unreachable!(),
         }
     }
@@ -165,8 +178,8 @@ impl<'a> Parts<'a> {
         ensures result { result ≡ assignment_sign_of (first (parts_view self.old)) }
         ensures rest { parts_view self.new ≡ rest (parts_view self.old) }
     {
-        match self.next() {
-            Part::Expression(ExpressionPart::AssignmentSign(part)) => part,
+        match &self.expression_part() {
+            ExpressionPart::AssignmentSign(sign) => *sign,
             _ => unreachable!(),
         }
     }
@@ -177,8 +190,8 @@ impl<'a> Parts<'a> {
         ensures result { result ≡ step_sign_of (first (parts_view self.old)) }
         ensures rest { parts_view self.new ≡ rest (parts_view self.old) }
     {
-        match self.next() {
-            Part::Expression(ExpressionPart::StepSign(part)) => part,
+        match &self.expression_part() {
+            ExpressionPart::StepSign(sign) => *sign,
             _ => unreachable!(),
         }
     }

@@ -3,7 +3,8 @@ ghost use Rattle.std.specs.Option.{option_map};
 ghost use Rattle.c_program.specs.Views.{bound_view};
 ghost use Rattle.c_program.specs.StatementViews.{block_view, external_view, parameter_view};
 ghost use Rattle.c_parts.specs.Kinds;
-ghost use Rattle.c_parts.specs.PartViews.{external_rest_view, function_rest_view, name_rest_view, parameter_name_view, parts_view};
+ghost use Rattle.c_parts.specs.PartData;
+ghost use Rattle.c_parts.specs.PartViews.{external_part_view, external_rest_view, function_rest_view, name_rest_view, parameter_name_view, parts_view};
 ghost use Rattle.c_parts.specs.Reading.{first, rest, kind_of, optional_bound_of, parameter_name_of, parameter_of, parameters_of, optional_block_of, function_rest_of, name_rest_of, external_rest_of, external_of, externals_of};
 
 use crate::chain::Chain;
@@ -13,14 +14,26 @@ use crate::parts::Parts;
 use c_program::{Block, Bound, External, Parameter};
 
 impl<'a> Parts<'a> {
+    /// Takes the first part: of an external declaration.
+    fn external_part(&mut self) -> ExternalPart
+        requires { Kinds.IsExternal (kind_of (first (parts_view self.now))) }
+        ensures part { PartData.external_part (external_part_view result) ≡ first (parts_view self.old) }
+        ensures rest { parts_view self.new ≡ rest (parts_view self.old) }
+    {
+        match self.next() {
+            Part::External(part) => part,
+            _ => unreachable!(),
+        }
+    }
+
     /// Takes the first part: the bound of a parameter, or none.
     pub fn optional_bound(&mut self) -> Option<Bound>
         requires { kind_of (first (parts_view self.now)) ≡ Kinds.optional_bound }
         ensures result { option_map bound_view result ≡ optional_bound_of (first (parts_view self.old)) }
         ensures rest { parts_view self.new ≡ rest (parts_view self.old) }
     {
-        match self.next() {
-            Part::External(ExternalPart::OptionalBound(part)) => part,
+        match self.external_part() {
+            ExternalPart::OptionalBound(part) => part,
             _ => unreachable!(),
         }
     }
@@ -31,8 +44,8 @@ impl<'a> Parts<'a> {
         ensures result { parameter_name_view result ≡ parameter_name_of (first (parts_view self.old)) }
         ensures rest { parts_view self.new ≡ rest (parts_view self.old) }
     {
-        match self.next() {
-            Part::External(ExternalPart::ParameterName(part)) => part,
+        match self.external_part() {
+            ExternalPart::ParameterName(part) => part,
             _ => unreachable!(),
         }
     }
@@ -43,8 +56,8 @@ impl<'a> Parts<'a> {
         ensures result { parameter_view result ≡ parameter_of (first (parts_view self.old)) }
         ensures rest { parts_view self.new ≡ rest (parts_view self.old) }
     {
-        match self.next() {
-            Part::External(ExternalPart::Parameter(part)) => part,
+        match self.external_part() {
+            ExternalPart::Parameter(part) => part,
             _ => unreachable!(),
         }
     }
@@ -55,8 +68,8 @@ impl<'a> Parts<'a> {
         ensures result { map parameter_view result ≡ parameters_of (first (parts_view self.old)) }
         ensures rest { parts_view self.new ≡ rest (parts_view self.old) }
     {
-        match self.next() {
-            Part::External(ExternalPart::Parameters(part)) => part,
+        match self.external_part() {
+            ExternalPart::Parameters(part) => part,
             _ => unreachable!(),
         }
     }
@@ -67,8 +80,8 @@ impl<'a> Parts<'a> {
         ensures result { option_map block_view result ≡ optional_block_of (first (parts_view self.old)) }
         ensures rest { parts_view self.new ≡ rest (parts_view self.old) }
     {
-        match self.next() {
-            Part::External(ExternalPart::OptionalBlock(part)) => part,
+        match self.external_part() {
+            ExternalPart::OptionalBlock(part) => part,
             _ => unreachable!(),
         }
     }
@@ -79,8 +92,8 @@ impl<'a> Parts<'a> {
         ensures result { function_rest_view result ≡ function_rest_of (first (parts_view self.old)) }
         ensures rest { parts_view self.new ≡ rest (parts_view self.old) }
     {
-        match self.next() {
-            Part::External(ExternalPart::FunctionRest(part)) => part,
+        match self.external_part() {
+            ExternalPart::FunctionRest(part) => part,
             _ => unreachable!(),
         }
     }
@@ -91,8 +104,8 @@ impl<'a> Parts<'a> {
         ensures result { name_rest_view result ≡ name_rest_of (first (parts_view self.old)) }
         ensures rest { parts_view self.new ≡ rest (parts_view self.old) }
     {
-        match self.next() {
-            Part::External(ExternalPart::NameRest(part)) => part,
+        match self.external_part() {
+            ExternalPart::NameRest(part) => part,
             _ => unreachable!(),
         }
     }
@@ -103,8 +116,8 @@ impl<'a> Parts<'a> {
         ensures result { external_rest_view result ≡ external_rest_of (first (parts_view self.old)) }
         ensures rest { parts_view self.new ≡ rest (parts_view self.old) }
     {
-        match self.next() {
-            Part::External(ExternalPart::ExternalRest(part)) => part,
+        match self.external_part() {
+            ExternalPart::ExternalRest(part) => part,
             _ => unreachable!(),
         }
     }
@@ -115,8 +128,8 @@ impl<'a> Parts<'a> {
         ensures result { external_view result ≡ external_of (first (parts_view self.old)) }
         ensures rest { parts_view self.new ≡ rest (parts_view self.old) }
     {
-        match self.next() {
-            Part::External(ExternalPart::External(part)) => part,
+        match self.external_part() {
+            ExternalPart::External(part) => part,
             _ => unreachable!(),
         }
     }
@@ -127,8 +140,8 @@ impl<'a> Parts<'a> {
         ensures result { map external_view result ≡ externals_of (first (parts_view self.old)) }
         ensures rest { parts_view self.new ≡ rest (parts_view self.old) }
     {
-        match self.next() {
-            Part::External(ExternalPart::Externals(part)) => part,
+        match self.external_part() {
+            ExternalPart::Externals(part) => part,
             _ => unreachable!(),
         }
     }

@@ -2,7 +2,8 @@ ghost use Rattle.std.specs.Prelude.{◌≡◌, map};
 ghost use Rattle.std.specs.Option.{option_map};
 ghost use Rattle.c_program.specs.StatementViews.{block_view, body_view, case_label_view, clause_view, for_start_view, if_view, item_view, leave_view, otherwise_view, simple_view, statement_view};
 ghost use Rattle.c_parts.specs.Kinds;
-ghost use Rattle.c_parts.specs.PartViews.{simple_rest_view, parts_view};
+ghost use Rattle.c_parts.specs.PartData;
+ghost use Rattle.c_parts.specs.PartViews.{statement_part_view, simple_rest_view, parts_view};
 ghost use Rattle.c_parts.specs.Reading.{first, rest, kind_of, block_of, item_of, items_of, statement_of, statements_of, if_statement_of, otherwise_of, otherwise_branch_of, for_start_of, optional_for_start_of, simple_of, optional_simple_of, simple_rest_of, case_labels_of, clause_of, clauses_of, body_of, optional_body_of, leave_of};
 
 use crate::chain::Chain;
@@ -14,14 +15,26 @@ use c_program::{
 };
 
 impl<'a> Parts<'a> {
+    /// Takes the first part: of a statement.
+    fn statement_part(&mut self) -> StatementPart
+        requires { Kinds.IsStatement (kind_of (first (parts_view self.now))) }
+        ensures part { PartData.statement_part (statement_part_view result) ≡ first (parts_view self.old) }
+        ensures rest { parts_view self.new ≡ rest (parts_view self.old) }
+    {
+        match self.next() {
+            Part::Statement(part) => part,
+            _ => unreachable!(),
+        }
+    }
+
     /// Takes the first part: a compound statement.
     pub fn block(&mut self) -> Block
         requires { kind_of (first (parts_view self.now)) ≡ Kinds.block }
         ensures result { block_view result ≡ block_of (first (parts_view self.old)) }
         ensures rest { parts_view self.new ≡ rest (parts_view self.old) }
     {
-        match self.next() {
-            Part::Statement(StatementPart::Block(part)) => part,
+        match self.statement_part() {
+            StatementPart::Block(part) => part,
             _ => unreachable!(),
         }
     }
@@ -32,8 +45,8 @@ impl<'a> Parts<'a> {
         ensures result { item_view result ≡ item_of (first (parts_view self.old)) }
         ensures rest { parts_view self.new ≡ rest (parts_view self.old) }
     {
-        match self.next() {
-            Part::Statement(StatementPart::Item(part)) => Box::into_inner(part),
+        match self.statement_part() {
+            StatementPart::Item(part) => Box::into_inner(part),
             _ => unreachable!(),
         }
     }
@@ -44,8 +57,8 @@ impl<'a> Parts<'a> {
         ensures result { map item_view result ≡ items_of (first (parts_view self.old)) }
         ensures rest { parts_view self.new ≡ rest (parts_view self.old) }
     {
-        match self.next() {
-            Part::Statement(StatementPart::Items(part)) => part,
+        match self.statement_part() {
+            StatementPart::Items(part) => part,
             _ => unreachable!(),
         }
     }
@@ -56,8 +69,8 @@ impl<'a> Parts<'a> {
         ensures result { statement_view result ≡ statement_of (first (parts_view self.old)) }
         ensures rest { parts_view self.new ≡ rest (parts_view self.old) }
     {
-        match self.next() {
-            Part::Statement(StatementPart::Statement(part)) => Box::into_inner(part),
+        match self.statement_part() {
+            StatementPart::Statement(part) => Box::into_inner(part),
             _ => unreachable!(),
         }
     }
@@ -68,8 +81,8 @@ impl<'a> Parts<'a> {
         ensures result { map statement_view result ≡ statements_of (first (parts_view self.old)) }
         ensures rest { parts_view self.new ≡ rest (parts_view self.old) }
     {
-        match self.next() {
-            Part::Statement(StatementPart::Statements(part)) => part,
+        match self.statement_part() {
+            StatementPart::Statements(part) => part,
             _ => unreachable!(),
         }
     }
@@ -80,8 +93,8 @@ impl<'a> Parts<'a> {
         ensures result { if_view result ≡ if_statement_of (first (parts_view self.old)) }
         ensures rest { parts_view self.new ≡ rest (parts_view self.old) }
     {
-        match self.next() {
-            Part::Statement(StatementPart::IfStatement(part)) => part,
+        match self.statement_part() {
+            StatementPart::IfStatement(part) => part,
             _ => unreachable!(),
         }
     }
@@ -92,8 +105,8 @@ impl<'a> Parts<'a> {
         ensures result { option_map otherwise_view result ≡ otherwise_of (first (parts_view self.old)) }
         ensures rest { parts_view self.new ≡ rest (parts_view self.old) }
     {
-        match self.next() {
-            Part::Statement(StatementPart::Otherwise(part)) => part,
+        match self.statement_part() {
+            StatementPart::Otherwise(part) => part,
             _ => unreachable!(),
         }
     }
@@ -104,8 +117,8 @@ impl<'a> Parts<'a> {
         ensures result { otherwise_view result ≡ otherwise_branch_of (first (parts_view self.old)) }
         ensures rest { parts_view self.new ≡ rest (parts_view self.old) }
     {
-        match self.next() {
-            Part::Statement(StatementPart::OtherwiseBranch(part)) => part,
+        match self.statement_part() {
+            StatementPart::OtherwiseBranch(part) => part,
             _ => unreachable!(),
         }
     }
@@ -116,8 +129,8 @@ impl<'a> Parts<'a> {
         ensures result { for_start_view result ≡ for_start_of (first (parts_view self.old)) }
         ensures rest { parts_view self.new ≡ rest (parts_view self.old) }
     {
-        match self.next() {
-            Part::Statement(StatementPart::ForStart(part)) => part,
+        match self.statement_part() {
+            StatementPart::ForStart(part) => part,
             _ => unreachable!(),
         }
     }
@@ -128,8 +141,8 @@ impl<'a> Parts<'a> {
         ensures result { option_map for_start_view result ≡ optional_for_start_of (first (parts_view self.old)) }
         ensures rest { parts_view self.new ≡ rest (parts_view self.old) }
     {
-        match self.next() {
-            Part::Statement(StatementPart::OptionalForStart(part)) => part,
+        match self.statement_part() {
+            StatementPart::OptionalForStart(part) => part,
             _ => unreachable!(),
         }
     }
@@ -140,8 +153,8 @@ impl<'a> Parts<'a> {
         ensures result { simple_view result ≡ simple_of (first (parts_view self.old)) }
         ensures rest { parts_view self.new ≡ rest (parts_view self.old) }
     {
-        match self.next() {
-            Part::Statement(StatementPart::Simple(part)) => part,
+        match self.statement_part() {
+            StatementPart::Simple(part) => part,
             _ => unreachable!(),
         }
     }
@@ -152,8 +165,8 @@ impl<'a> Parts<'a> {
         ensures result { option_map simple_view result ≡ optional_simple_of (first (parts_view self.old)) }
         ensures rest { parts_view self.new ≡ rest (parts_view self.old) }
     {
-        match self.next() {
-            Part::Statement(StatementPart::OptionalSimple(part)) => part,
+        match self.statement_part() {
+            StatementPart::OptionalSimple(part) => part,
             _ => unreachable!(),
         }
     }
@@ -164,8 +177,8 @@ impl<'a> Parts<'a> {
         ensures result { option_map simple_rest_view result ≡ simple_rest_of (first (parts_view self.old)) }
         ensures rest { parts_view self.new ≡ rest (parts_view self.old) }
     {
-        match self.next() {
-            Part::Statement(StatementPart::SimpleRest(part)) => part,
+        match self.statement_part() {
+            StatementPart::SimpleRest(part) => part,
             _ => unreachable!(),
         }
     }
@@ -176,8 +189,8 @@ impl<'a> Parts<'a> {
         ensures result { map case_label_view result ≡ case_labels_of (first (parts_view self.old)) }
         ensures rest { parts_view self.new ≡ rest (parts_view self.old) }
     {
-        match self.next() {
-            Part::Statement(StatementPart::CaseLabels(part)) => part,
+        match self.statement_part() {
+            StatementPart::CaseLabels(part) => part,
             _ => unreachable!(),
         }
     }
@@ -188,8 +201,8 @@ impl<'a> Parts<'a> {
         ensures result { clause_view result ≡ clause_of (first (parts_view self.old)) }
         ensures rest { parts_view self.new ≡ rest (parts_view self.old) }
     {
-        match self.next() {
-            Part::Statement(StatementPart::Clause(part)) => part,
+        match self.statement_part() {
+            StatementPart::Clause(part) => part,
             _ => unreachable!(),
         }
     }
@@ -200,8 +213,8 @@ impl<'a> Parts<'a> {
         ensures result { map clause_view result ≡ clauses_of (first (parts_view self.old)) }
         ensures rest { parts_view self.new ≡ rest (parts_view self.old) }
     {
-        match self.next() {
-            Part::Statement(StatementPart::Clauses(part)) => part,
+        match self.statement_part() {
+            StatementPart::Clauses(part) => part,
             _ => unreachable!(),
         }
     }
@@ -212,8 +225,8 @@ impl<'a> Parts<'a> {
         ensures result { body_view result ≡ body_of (first (parts_view self.old)) }
         ensures rest { parts_view self.new ≡ rest (parts_view self.old) }
     {
-        match self.next() {
-            Part::Statement(StatementPart::Body(part)) => part,
+        match self.statement_part() {
+            StatementPart::Body(part) => part,
             _ => unreachable!(),
         }
     }
@@ -224,8 +237,8 @@ impl<'a> Parts<'a> {
         ensures result { option_map body_view result ≡ optional_body_of (first (parts_view self.old)) }
         ensures rest { parts_view self.new ≡ rest (parts_view self.old) }
     {
-        match self.next() {
-            Part::Statement(StatementPart::OptionalBody(part)) => part,
+        match self.statement_part() {
+            StatementPart::OptionalBody(part) => part,
             _ => unreachable!(),
         }
     }
@@ -236,8 +249,8 @@ impl<'a> Parts<'a> {
         ensures result { leave_view result ≡ leave_of (first (parts_view self.old)) }
         ensures rest { parts_view self.new ≡ rest (parts_view self.old) }
     {
-        match self.next() {
-            Part::Statement(StatementPart::Leave(part)) => part,
+        match self.statement_part() {
+            StatementPart::Leave(part) => part,
             _ => unreachable!(),
         }
     }
