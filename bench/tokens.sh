@@ -2,11 +2,8 @@
 # Times the lexer, as the built program runs it: texts of 26,214 and 262,144 bytes with every kind of token, comments,
 # and typedef names, which leave the form of the judged texts at their first token, so that all that takes time is
 # reading and cutting. Prints the best of ten runs of each, start of the program and all. It is no test.
-top=$(cd "$(dirname "$0")/.." && pwd) || exit 1
-"$top/misra_desk" >/dev/null 2>&1
-work=$(mktemp -d) || exit 1
-trap 'rm -rf "$work"' EXIT
-python3 - "$top/crates/misra_desk/out/misra_desk" "$work/text.c" <<'END'
+. "$(dirname "$0")/built.sh"
+python3 - "$program" "$text" <<'END'
 import subprocess
 import sys
 import time

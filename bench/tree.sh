@@ -3,11 +3,8 @@
 # leave the form of the judged texts at an early token, so that all that takes time is reading, cutting and making the
 # tree. Each comes at a tenth of the length and at the whole of it. Prints the best of five runs of each, start of the
 # program and all, and the peak memory. It is no test.
-top=$(cd "$(dirname "$0")/.." && pwd) || exit 1
-"$top/misra_desk" >/dev/null 2>&1
-work=$(mktemp -d) || exit 1
-trap 'rm -rf "$work"' EXIT
-python3 - "$top/crates/misra_desk/out/misra_desk" "$work/text.c" <<'END'
+. "$(dirname "$0")/built.sh"
+python3 - "$program" "$text" <<'END'
 import resource
 import subprocess
 import sys
