@@ -1,16 +1,19 @@
-ghost use Rattle.std.specs.Prelude.{◌≡◌, map, IfOk};
+ghost use Rattle.std.specs.Prelude.{◌≡◌, ◌∷◌, map, IfOk, Some};
+ghost use Rattle.std.specs.Option.{option_map};
 ghost use Rattle.c_program.specs.Expressions;
+ghost use Rattle.c_program.specs.Statements;
 ghost use Rattle.c_program.specs.Views;
-ghost use Rattle.c_program.specs.Views.{pointers_view, bound_view, declarator_view};
-ghost use Rattle.c_program.specs.StatementViews.{init_declarator_view};
-ghost use Rattle.c_parts.specs.PartViews.{declaration_part_view, parts_view, objects_view, leaf_view};
+ghost use Rattle.c_program.specs.Views.{pointers_view, expression_view, declarator_view, bound_view};
+ghost use Rattle.c_program.specs.StatementViews;
+ghost use Rattle.c_program.specs.StatementViews.{initializer_view, initialization_view, init_declarator_view};
+ghost use Rattle.c_parts.specs.PartData;
+ghost use Rattle.c_parts.specs.PartViews.{leaf_view, operand_view, objects_view, declaration_part_view, parts_view};
 ghost use Rattle.c_parts.specs.Reading.{Fits};
-ghost use Rattle.c_nodes.specs.declared.declarator_nodes.DeclaratorAction.TheVariants as ActionOf;
-ghost use Rattle.c_nodes.specs.DeclaratorNodes.{kinds, node, all_declarators};
+ghost use Rattle.c_nodes.specs.DeclaratorNodes.{kinds, all_declarators, node};
 
-use c_parts::{Chain, DeclarationPart, Leaf, Objects, Parts};
+use c_parts::{Chain, DeclarationPart, Leaf, Objects, Operand, Parts};
 use c_program::{
-    Bound, Declarator, InitDeclarator, Initialization, Initializer, Pointer, Qualifier,
+    Bound, Declarator, Expression, InitDeclarator, Initialization, Initializer, Pointer, Qualifier,
 };
 use std::alloc::{AllocError, Global};
 
@@ -75,51 +78,102 @@ pub(crate) fn declarator_node(
     ensures { IfOk result (λ p. declaration_part_view p ≡ node action (parts_view parts.old)) }
 {
     match action {
-        DeclaratorAction::Qualifier(qualifier) => qualifiers(parts, qualifier),
+        DeclaratorAction::Qualifier(qualifier) => qualifiers(
+            parts.leaf(),
+            parts.qualifiers(),
+            qualifier,
+        ),
         DeclaratorAction::NoQualifiers => Ok(DeclarationPart::Qualifiers(Chain::new(alloc))),
-        DeclaratorAction::Pointer => pointer(parts),
+        DeclaratorAction::Pointer => pointer(parts.leaf(), parts.qualifiers(), parts.pointers()),
         DeclaratorAction::NoPointers => Ok(DeclarationPart::Pointers(Chain::new(alloc))),
-        DeclaratorAction::Pointers => Ok(pointers(parts)),
-        DeclaratorAction::Bound => bound(parts),
-        DeclaratorAction::MemberBound => member_bound(parts),
+        DeclaratorAction::Pointers => Ok(DeclarationPart::Pointers(parts.pointers())),
+        DeclaratorAction::Bound => bound(
+            parts.leaf(),
+            parts.optional_expression(),
+            parts.leaf(),
+            parts.bounds(),
+        ),
+        DeclaratorAction::MemberBound => member_bound(
+            parts.leaf(),
+            parts.operand(),
+            parts.leaf(),
+            parts.bounds(),
+        ),
         DeclaratorAction::NoBounds => Ok(DeclarationPart::Bounds(Chain::new(alloc))),
-        DeclaratorAction::Bounds => Ok(bounds(parts)),
-        DeclaratorAction::Declarator => one_declarator(alloc, parts),
-        DeclaratorAction::InitializerExpression => Ok(initializer_expression(parts)),
-        DeclaratorAction::InitializerList => initializer_list(parts),
-        DeclaratorAction::InitializersBehindComma => Ok(initializers_behind_comma(parts)),
-        DeclaratorAction::InitializersAgain => Ok(initializers_again(parts)),
-        DeclaratorAction::Initializers => initializers(parts),
+        DeclaratorAction::Bounds => Ok(DeclarationPart::Bounds(parts.bounds())),
+        DeclaratorAction::Declarator => one_declarator(
+            alloc,
+            parts.pointers(),
+            parts.leaf(),
+            parts.bounds(),
+        ),
+        DeclaratorAction::InitializerExpression => Ok(DeclarationPart::Initializer(
+            Initializer::Expression(parts.operand().expression),
+        )),
+        DeclaratorAction::InitializerList => initializer_list(
+            parts.leaf(),
+            parts.initializer(),
+            parts.initializers(),
+        ),
+        DeclaratorAction::InitializersBehindComma => {
+            parts.leaf();
+            Ok(DeclarationPart::Initializers(parts.initializers()))
+        },
+        DeclaratorAction::InitializersAgain => Ok(DeclarationPart::Initializers(
+            parts.initializers(),
+        )),
+        DeclaratorAction::Initializers => initializers(parts.initializer(), parts.initializers()),
         DeclaratorAction::NoInitializers => Ok(DeclarationPart::Initializers(Chain::new(alloc))),
-        DeclaratorAction::Initialization => Ok(initialization(parts)),
+        DeclaratorAction::Initialization => Ok(DeclarationPart::Initialization(initialization(
+            parts.leaf(),
+            parts.initializer(),
+        ))),
         DeclaratorAction::NoInitialization => Ok(DeclarationPart::Initialization(None)),
-        DeclaratorAction::InitDeclarators => init_declarators(alloc, parts),
+        DeclaratorAction::InitDeclarators => init_declarators(
+            alloc,
+            parts.leaf(),
+            parts.pointers(),
+            parts.leaf(),
+            parts.bounds(),
+            parts.initialization(),
+            parts.init_declarators(),
+        ),
         DeclaratorAction::NoInitDeclarators => Ok(DeclarationPart::InitDeclarators(Chain::new(
             alloc,
         ))),
-        DeclaratorAction::Objects => Ok(objects(parts)),
+        DeclaratorAction::Objects => Ok(DeclarationPart::Objects(objects(
+            parts.bounds(),
+            parts.initialization(),
+            parts.init_declarators(),
+        ))),
         DeclaratorAction::OnlyTypes => Ok(DeclarationPart::InitDeclarators(Chain::new(alloc))),
-        DeclaratorAction::Declarators => declarators(alloc, parts),
+        DeclaratorAction::Declarators => declarators(
+            alloc,
+            parts.pointers(),
+            parts.leaf(),
+            parts.objects(),
+        ),
     }
 }
 
-fn qualifiers(parts: &mut Parts, qualifier: Qualifier) -> Result<DeclarationPart, AllocError>
-    requires { Fits (kinds (ActionOf.Qualifier qualifier)) (parts_view parts.now) }
-    ensures { IfOk result (λ p. declaration_part_view p ≡ node (ActionOf.Qualifier qualifier) (parts_view parts.old)) }
+fn qualifiers(
+    _: Leaf,
+    mut qualifiers: Chain<Qualifier>,
+    qualifier: Qualifier,
+) -> Result<DeclarationPart, AllocError>
+    ensures { IfOk result (λ part. declaration_part_view part ≡ PartData.qualifiers (qualifier ∷ qualifiers)) }
 {
-    parts.leaf();
-    let mut qualifiers = parts.qualifiers();
     qualifiers.put_front(qualifier)?;
     Ok(DeclarationPart::Qualifiers(qualifiers))
 }
 
-fn pointer(parts: &mut Parts) -> Result<DeclarationPart, AllocError>
-    requires { Fits (kinds ActionOf.Pointer) (parts_view parts.now) }
-    ensures { IfOk result (λ p. declaration_part_view p ≡ node ActionOf.Pointer (parts_view parts.old)) }
+fn pointer(
+    star: Leaf,
+    qualifiers: Chain<Qualifier>,
+    mut pointers: Chain<Pointer>,
+) -> Result<DeclarationPart, AllocError>
+    ensures { IfOk result (λ part. declaration_part_view part ≡ PartData.pointers ((record { place = (leaf_view star.entry).place; qualifiers = qualifiers }) ∷ (pointers_view pointers))) }
 {
-    let star = parts.leaf();
-    let qualifiers = parts.qualifiers();
-    let mut pointers = parts.pointers();
     pointers.put_front(Pointer {
         place: star.place,
         qualifiers: qualifiers.into_vec(),
@@ -127,22 +181,14 @@ fn pointer(parts: &mut Parts) -> Result<DeclarationPart, AllocError>
     Ok(DeclarationPart::Pointers(pointers))
 }
 
-fn pointers(parts: &mut Parts) -> DeclarationPart
-    requires { Fits (kinds ActionOf.Pointers) (parts_view parts.now) }
-    ensures { declaration_part_view result ≡ node ActionOf.Pointers (parts_view parts.old) }
+fn bound(
+    _: Leaf,
+    size: Option<Expression>,
+    close: Leaf,
+    mut bounds: Chain<Bound>,
+) -> Result<DeclarationPart, AllocError>
+    ensures { IfOk result (λ part. declaration_part_view part ≡ PartData.bounds ((Expressions.bound (Views.maybe_of (option_map expression_view size)) (leaf_view close.entry).place) ∷ (map bound_view bounds))) }
 {
-    let pointers = parts.pointers();
-    DeclarationPart::Pointers(pointers)
-}
-
-fn bound(parts: &mut Parts) -> Result<DeclarationPart, AllocError>
-    requires { Fits (kinds ActionOf.Bound) (parts_view parts.now) }
-    ensures { IfOk result (λ p. declaration_part_view p ≡ node ActionOf.Bound (parts_view parts.old)) }
-{
-    parts.leaf();
-    let size = parts.optional_expression();
-    let close = parts.leaf();
-    let mut bounds = parts.bounds();
     bounds.put_front(Bound {
         size,
         close: close.place,
@@ -150,14 +196,14 @@ fn bound(parts: &mut Parts) -> Result<DeclarationPart, AllocError>
     Ok(DeclarationPart::Bounds(bounds))
 }
 
-fn member_bound(parts: &mut Parts) -> Result<DeclarationPart, AllocError>
-    requires { Fits (kinds ActionOf.MemberBound) (parts_view parts.now) }
-    ensures { IfOk result (λ p. declaration_part_view p ≡ node ActionOf.MemberBound (parts_view parts.old)) }
+fn member_bound(
+    _: Leaf,
+    size: Operand,
+    close: Leaf,
+    mut bounds: Chain<Bound>,
+) -> Result<DeclarationPart, AllocError>
+    ensures { IfOk result (λ part. declaration_part_view part ≡ PartData.bounds ((Expressions.bound (Expressions.some_expression (operand_view size).expression) (leaf_view close.entry).place) ∷ (map bound_view bounds))) }
 {
-    parts.leaf();
-    let size = parts.operand();
-    let close = parts.leaf();
-    let mut bounds = parts.bounds();
     bounds.put_front(Bound {
         size: Some(size.expression),
         close: close.place,
@@ -165,39 +211,24 @@ fn member_bound(parts: &mut Parts) -> Result<DeclarationPart, AllocError>
     Ok(DeclarationPart::Bounds(bounds))
 }
 
-fn bounds(parts: &mut Parts) -> DeclarationPart
-    requires { Fits (kinds ActionOf.Bounds) (parts_view parts.now) }
-    ensures { declaration_part_view result ≡ node ActionOf.Bounds (parts_view parts.old) }
+fn one_declarator(
+    alloc: Global,
+    pointers: Chain<Pointer>,
+    name: Leaf,
+    bounds: Chain<Bound>,
+) -> Result<DeclarationPart, AllocError>
+    ensures { IfOk result (λ part. declaration_part_view part ≡ PartData.declarator (Expressions.declarator (pointers_view pointers) (leaf_view name.entry) (Views.bounds_of (map bound_view bounds)))) }
 {
-    let bounds = parts.bounds();
-    DeclarationPart::Bounds(bounds)
-}
-
-fn one_declarator(alloc: Global, parts: &mut Parts) -> Result<DeclarationPart, AllocError>
-    requires { Fits (kinds ActionOf.Declarator) (parts_view parts.now) }
-    ensures { IfOk result (λ p. declaration_part_view p ≡ node ActionOf.Declarator (parts_view parts.old)) }
-{
-    let pointers = parts.pointers();
-    let name = parts.leaf();
-    let bounds = parts.bounds();
     Ok(DeclarationPart::Declarator(declarator(alloc, pointers, name, bounds)?))
 }
 
-fn initializer_expression(parts: &mut Parts) -> DeclarationPart
-    requires { Fits (kinds ActionOf.InitializerExpression) (parts_view parts.now) }
-    ensures { declaration_part_view result ≡ node ActionOf.InitializerExpression (parts_view parts.old) }
+fn initializer_list(
+    brace: Leaf,
+    first: Initializer,
+    mut others: Chain<Initializer>,
+) -> Result<DeclarationPart, AllocError>
+    ensures { IfOk result (λ part. declaration_part_view part ≡ PartData.initializer (Statements.initial_list (leaf_view brace.entry).place (StatementViews.initializers_of ((initializer_view first) ∷ (map initializer_view others))))) }
 {
-    let value = parts.operand();
-    DeclarationPart::Initializer(Initializer::Expression(value.expression))
-}
-
-fn initializer_list(parts: &mut Parts) -> Result<DeclarationPart, AllocError>
-    requires { Fits (kinds ActionOf.InitializerList) (parts_view parts.now) }
-    ensures { IfOk result (λ p. declaration_part_view p ≡ node ActionOf.InitializerList (parts_view parts.old)) }
-{
-    let brace = parts.leaf();
-    let first = parts.initializer();
-    let mut others = parts.initializers();
     others.put_front(first)?;
     Ok(DeclarationPart::Initializer(Initializer::List {
         place: brace.place,
@@ -205,55 +236,36 @@ fn initializer_list(parts: &mut Parts) -> Result<DeclarationPart, AllocError>
     }))
 }
 
-fn initializers_behind_comma(parts: &mut Parts) -> DeclarationPart
-    requires { Fits (kinds ActionOf.InitializersBehindComma) (parts_view parts.now) }
-    ensures { declaration_part_view result ≡ node ActionOf.InitializersBehindComma (parts_view parts.old) }
+fn initializers(
+    one: Initializer,
+    mut initializers: Chain<Initializer>,
+) -> Result<DeclarationPart, AllocError>
+    ensures { IfOk result (λ part. declaration_part_view part ≡ PartData.initializers ((initializer_view one) ∷ (map initializer_view initializers))) }
 {
-    parts.leaf();
-    let initializers = parts.initializers();
-    DeclarationPart::Initializers(initializers)
-}
-
-fn initializers_again(parts: &mut Parts) -> DeclarationPart
-    requires { Fits (kinds ActionOf.InitializersAgain) (parts_view parts.now) }
-    ensures { declaration_part_view result ≡ node ActionOf.InitializersAgain (parts_view parts.old) }
-{
-    let initializers = parts.initializers();
-    DeclarationPart::Initializers(initializers)
-}
-
-fn initializers(parts: &mut Parts) -> Result<DeclarationPart, AllocError>
-    requires { Fits (kinds ActionOf.Initializers) (parts_view parts.now) }
-    ensures { IfOk result (λ p. declaration_part_view p ≡ node ActionOf.Initializers (parts_view parts.old)) }
-{
-    let one = parts.initializer();
-    let mut initializers = parts.initializers();
     initializers.put_front(one)?;
     Ok(DeclarationPart::Initializers(initializers))
 }
 
-fn initialization(parts: &mut Parts) -> DeclarationPart
-    requires { Fits (kinds ActionOf.Initialization) (parts_view parts.now) }
-    ensures { declaration_part_view result ≡ node ActionOf.Initialization (parts_view parts.old) }
+fn initialization(sign: Leaf, value: Initializer) -> Option<Initialization>
+    ensures { option_map initialization_view result ≡ Some (record { place = (leaf_view sign.entry).place; value = (initializer_view value) }) }
 {
-    let sign = parts.leaf();
-    let value = parts.initializer();
-    DeclarationPart::Initialization(Some(Initialization {
+    Some(Initialization {
         place: sign.place,
         value,
-    }))
+    })
 }
 
-fn init_declarators(alloc: Global, parts: &mut Parts) -> Result<DeclarationPart, AllocError>
-    requires { Fits (kinds ActionOf.InitDeclarators) (parts_view parts.now) }
-    ensures { IfOk result (λ p. declaration_part_view p ≡ node ActionOf.InitDeclarators (parts_view parts.old)) }
+fn init_declarators(
+    alloc: Global,
+    _: Leaf,
+    pointers: Chain<Pointer>,
+    name: Leaf,
+    bounds: Chain<Bound>,
+    initialization: Option<Initialization>,
+    mut declarators: Chain<InitDeclarator>,
+) -> Result<DeclarationPart, AllocError>
+    ensures { IfOk result (λ part. declaration_part_view part ≡ PartData.init_declarators ((record { declarator = Expressions.declarator (pointers_view pointers) (leaf_view name.entry) (Views.bounds_of (map bound_view bounds)); initialization = (option_map initialization_view initialization) }) ∷ (map init_declarator_view declarators))) }
 {
-    parts.leaf();
-    let pointers = parts.pointers();
-    let name = parts.leaf();
-    let bounds = parts.bounds();
-    let initialization = parts.initialization();
-    let mut declarators = parts.init_declarators();
     declarators.put_front(InitDeclarator {
         declarator: declarator(alloc, pointers, name, bounds)?,
         initialization,
@@ -261,27 +273,28 @@ fn init_declarators(alloc: Global, parts: &mut Parts) -> Result<DeclarationPart,
     Ok(DeclarationPart::InitDeclarators(declarators))
 }
 
-fn objects(parts: &mut Parts) -> DeclarationPart
-    requires { Fits (kinds ActionOf.Objects) (parts_view parts.now) }
-    ensures { declaration_part_view result ≡ node ActionOf.Objects (parts_view parts.old) }
+fn objects(
+    bounds: Chain<Bound>,
+    initialization: Option<Initialization>,
+    others: Chain<InitDeclarator>,
+) -> Objects
+    ensures { objects_view result ≡ record { bounds = (map bound_view bounds); initialization = (option_map initialization_view initialization); others = (map init_declarator_view others) } }
 {
-    let bounds = parts.bounds();
-    let initialization = parts.initialization();
-    let others = parts.init_declarators();
-    DeclarationPart::Objects(Objects {
+    Objects {
         bounds,
         initialization,
         others,
-    })
+    }
 }
 
-fn declarators(alloc: Global, parts: &mut Parts) -> Result<DeclarationPart, AllocError>
-    requires { Fits (kinds ActionOf.Declarators) (parts_view parts.now) }
-    ensures { IfOk result (λ p. declaration_part_view p ≡ node ActionOf.Declarators (parts_view parts.old)) }
+fn declarators(
+    alloc: Global,
+    pointers: Chain<Pointer>,
+    name: Leaf,
+    objects: Objects,
+) -> Result<DeclarationPart, AllocError>
+    ensures { IfOk result (λ part. declaration_part_view part ≡ PartData.init_declarators (all_declarators (pointers_view pointers) (leaf_view name.entry) (objects_view objects))) }
 {
-    let pointers = parts.pointers();
-    let name = parts.leaf();
-    let objects = parts.objects();
     Ok(DeclarationPart::InitDeclarators(all_declarators(alloc, pointers, name, objects)?))
 }
 

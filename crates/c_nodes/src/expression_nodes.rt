@@ -1,20 +1,24 @@
-ghost use Rattle.std.specs.Prelude.{◌≡◌, map, IfOk};
+ghost use Rattle.std.specs.Prelude.{◌≡◌, ◌∷◌, map, IfOk, Some};
 ghost use Rattle.std.specs.Option.{option_map};
-ghost use Rattle.c_program.specs.Views.{expression_view, operation_view, postfix_view};
-ghost use Rattle.c_parts.specs.PartViews.{expression_part_view, parts_view, operand_view, branches_view, sizeof_operand_view, bracketed_view};
+ghost use Rattle.c_program.specs.Expressions;
+ghost use Rattle.c_program.specs.Views;
+ghost use Rattle.c_program.specs.Views.{pointers_view, expression_view, operation_view, type_name_view, specifier_view};
+ghost use Rattle.c_parts.specs.PartData;
+ghost use Rattle.c_parts.specs.PartViews.{leaf_view, operand_view, branches_view, sizeof_operand_view, bracketed_view, expression_part_view, parts_view};
 ghost use Rattle.c_parts.specs.Reading.{Fits};
-ghost use Rattle.c_nodes.specs.declared.expression_nodes.ExpressionAction.TheVariants as ActionOf;
-ghost use Rattle.c_nodes.specs.ExpressionNodes.{kinds, node, plain, bracketed, binary, conditional, sizeof, behind_bracket, postfixed};
+ghost use Rattle.c_nodes.specs.ExpressionNodes.{kinds, plain, binary, conditional, sizeof, behind_bracket, node};
 
+use crate::postfix_nodes::{
+    argument, arrow, call, first_argument, group, index, member, postfixed_operand, postfixes,
+};
 use c_parts::{
-    AssignmentSign, Bracketed, Branches, Chain, ExpressionPart, InfixOperator, Operand, Parts,
-    PrefixOperator, SizeofOperand, StepSign,
+    AssignmentSign, Bracketed, Branches, Chain, ExpressionPart, InfixOperator, Leaf, Operand,
+    Parts, PrefixOperator, SizeofOperand, StepSign,
 };
 use c_program::{
-    AssignmentOperator, BinaryOperator, Expression, Operation, Postfix, Step, TypeName,
+    AssignmentOperator, BinaryOperator, Expression, Operation, Pointer, Specifier, Step, TypeName,
     UnaryOperator,
 };
-use misra_base::Place;
 use std::alloc::{AllocError, Global};
 
 /// What a production of expressions makes of its parts.
@@ -100,88 +104,136 @@ pub(crate) fn expression_node(
     ensures { IfOk result (λ p. expression_part_view p ≡ node action (parts_view parts.old)) }
 {
     match action {
-        ExpressionAction::Infix(operator) => Ok(infix(parts, operator)),
-        ExpressionAction::Prefix(operator) => Ok(prefix(parts, operator)),
-        ExpressionAction::Identifier => identifier(alloc, parts),
-        ExpressionAction::Constant => constant(alloc, parts),
-        ExpressionAction::Operation(operator) => operation(parts, operator),
-        ExpressionAction::SignedOperation => signed_operation(parts),
+        ExpressionAction::Infix(operator) => Ok(ExpressionPart::InfixOperator(infix(
+            parts.leaf(),
+            operator,
+        ))),
+        ExpressionAction::Prefix(operator) => Ok(ExpressionPart::PrefixOperator(prefix(
+            parts.leaf(),
+            operator,
+        ))),
+        ExpressionAction::Identifier => identifier(alloc, parts.leaf()),
+        ExpressionAction::Constant => constant(alloc, parts.leaf()),
+        ExpressionAction::Operation(operator) => operation(
+            parts.leaf(),
+            parts.operand(),
+            parts.operations(),
+            operator,
+        ),
+        ExpressionAction::SignedOperation => signed_operation(
+            parts.infix_operator(),
+            parts.operand(),
+            parts.operations(),
+        ),
         ExpressionAction::NoOperations => Ok(ExpressionPart::Operations(Chain::new(alloc))),
-        ExpressionAction::Binary => binary_operand(alloc, parts),
-        ExpressionAction::Conditional => conditional_operand(alloc, parts),
-        ExpressionAction::Branches => Ok(branches(parts)),
+        ExpressionAction::Binary => binary_operand(alloc, parts.operand(), parts.operations()),
+        ExpressionAction::Conditional => conditional_operand(
+            alloc,
+            parts.operand(),
+            parts.branches(),
+        ),
+        ExpressionAction::Branches => branches(
+            alloc,
+            parts.leaf(),
+            parts.operand(),
+            parts.leaf(),
+            parts.operand(),
+        ),
         ExpressionAction::NoBranches => Ok(ExpressionPart::Branches(None)),
-        ExpressionAction::Unary => unary(alloc, parts),
-        ExpressionAction::Sizeof => sizeof_operand(alloc, parts),
-        ExpressionAction::SizeofType => Ok(sizeof_type(parts)),
-        ExpressionAction::SizeofExpression => Ok(sizeof_expression(parts)),
-        ExpressionAction::Bracket => bracket(alloc, parts),
-        ExpressionAction::Cast => Ok(cast(parts)),
-        ExpressionAction::Group => group(alloc, parts),
-        ExpressionAction::Postfixes => postfixes(parts),
+        ExpressionAction::Unary => unary(alloc, parts.prefix_operator(), parts.operand()),
+        ExpressionAction::Sizeof => sizeof_operand(
+            alloc,
+            parts.leaf(),
+            parts.leaf(),
+            parts.sizeof_operand(),
+        ),
+        ExpressionAction::SizeofType => Ok(ExpressionPart::SizeofOperand(SizeofOperand::Type(
+            parts.type_name(),
+        ))),
+        ExpressionAction::SizeofExpression => Ok(ExpressionPart::SizeofOperand(
+            SizeofOperand::Expression(parts.operand().expression),
+        )),
+        ExpressionAction::Bracket => Ok(ExpressionPart::Operand(behind_bracket(
+            parts.leaf(),
+            parts.bracketed(),
+        ))),
+        ExpressionAction::Cast => cast(alloc, parts.type_name(), parts.leaf(), parts.operand()),
+        ExpressionAction::Group => group(alloc, parts.operand(), parts.leaf(), parts.postfixes()),
+        ExpressionAction::Postfixes => postfixes(parts.postfix(), parts.postfixes()),
         ExpressionAction::NoPostfixes => Ok(ExpressionPart::Postfixes(Chain::new(alloc))),
-        ExpressionAction::Postfixed => postfixed_operand(alloc, parts),
-        ExpressionAction::TypeName => Ok(type_name(parts)),
-        ExpressionAction::Index => Ok(index(parts)),
-        ExpressionAction::Call => Ok(call(parts)),
-        ExpressionAction::FirstArgument => first_argument(parts),
-        ExpressionAction::Argument => argument(parts),
+        ExpressionAction::Postfixed => postfixed_operand(alloc, parts.operand(), parts.postfixes()),
+        ExpressionAction::TypeName => Ok(ExpressionPart::TypeName(type_name(
+            parts.specifiers(),
+            parts.pointers(),
+        ))),
+        ExpressionAction::Index => Ok(ExpressionPart::Postfix(index(
+            parts.leaf(),
+            parts.operand(),
+        ))),
+        ExpressionAction::Call => Ok(ExpressionPart::Postfix(call(
+            parts.leaf(),
+            parts.arguments(),
+        ))),
+        ExpressionAction::FirstArgument => first_argument(parts.operand(), parts.arguments()),
+        ExpressionAction::Argument => argument(parts.leaf(), parts.operand(), parts.arguments()),
         ExpressionAction::NoArguments => Ok(ExpressionPart::Arguments(Chain::new(alloc))),
-        ExpressionAction::Member => member(alloc, parts),
-        ExpressionAction::Arrow => arrow(alloc, parts),
-        ExpressionAction::SomeExpression => Ok(some_expression(parts)),
-        ExpressionAction::InitialExpression => Ok(initial_expression(parts)),
+        ExpressionAction::Member => member(alloc, parts.leaf(), parts.leaf()),
+        ExpressionAction::Arrow => arrow(alloc, parts.leaf(), parts.leaf()),
+        ExpressionAction::SomeExpression => Ok(ExpressionPart::OptionalExpression(Some(
+            parts.operand().expression,
+        ))),
+        ExpressionAction::InitialExpression => Ok(ExpressionPart::OptionalExpression(
+            initial_expression(parts.leaf(), parts.operand()),
+        )),
         ExpressionAction::NoExpression => Ok(ExpressionPart::OptionalExpression(None)),
-        ExpressionAction::AssignmentSign(operator) => Ok(assignment_sign(parts, operator)),
-        ExpressionAction::StepSign(step) => Ok(step_sign(parts, step)),
+        ExpressionAction::AssignmentSign(operator) => Ok(ExpressionPart::AssignmentSign(
+            assignment_sign(parts.leaf(), operator),
+        )),
+        ExpressionAction::StepSign(step) => Ok(ExpressionPart::StepSign(step_sign(
+            parts.leaf(),
+            step,
+        ))),
     }
 }
 
-fn infix(parts: &mut Parts, operator: BinaryOperator) -> ExpressionPart
-    requires { Fits (kinds (ActionOf.Infix operator)) (parts_view parts.now) }
-    ensures { expression_part_view result ≡ node (ActionOf.Infix operator) (parts_view parts.old) }
+fn infix(sign: Leaf, operator: BinaryOperator) -> InfixOperator
+    ensures { result ≡ record { place = (leaf_view sign.entry).place; operator = operator } }
 {
-    let sign = parts.leaf();
-    ExpressionPart::InfixOperator(InfixOperator {
+    InfixOperator {
         place: sign.place,
         operator,
-    })
+    }
 }
 
-fn prefix(parts: &mut Parts, operator: UnaryOperator) -> ExpressionPart
-    requires { Fits (kinds (ActionOf.Prefix operator)) (parts_view parts.now) }
-    ensures { expression_part_view result ≡ node (ActionOf.Prefix operator) (parts_view parts.old) }
+fn prefix(sign: Leaf, operator: UnaryOperator) -> PrefixOperator
+    ensures { result ≡ record { place = (leaf_view sign.entry).place; operator = operator } }
 {
-    let sign = parts.leaf();
-    ExpressionPart::PrefixOperator(PrefixOperator {
+    PrefixOperator {
         place: sign.place,
         operator,
-    })
+    }
 }
 
-fn identifier(alloc: Global, parts: &mut Parts) -> Result<ExpressionPart, AllocError>
-    requires { Fits (kinds ActionOf.Identifier) (parts_view parts.now) }
-    ensures { IfOk result (λ p. expression_part_view p ≡ node ActionOf.Identifier (parts_view parts.old)) }
+fn identifier(alloc: Global, name: Leaf) -> Result<ExpressionPart, AllocError>
+    ensures { IfOk result (λ part. expression_part_view part ≡ PartData.operand (plain (Expressions.identifier (leaf_view name.entry)))) }
 {
-    let name = parts.leaf();
     Ok(ExpressionPart::Operand(operand(Expression::Identifier(name.word(alloc)?))))
 }
 
-fn constant(alloc: Global, parts: &mut Parts) -> Result<ExpressionPart, AllocError>
-    requires { Fits (kinds ActionOf.Constant) (parts_view parts.now) }
-    ensures { IfOk result (λ p. expression_part_view p ≡ node ActionOf.Constant (parts_view parts.old)) }
+fn constant(alloc: Global, literal: Leaf) -> Result<ExpressionPart, AllocError>
+    ensures { IfOk result (λ part. expression_part_view part ≡ PartData.operand (plain (Expressions.constant (leaf_view literal.entry)))) }
 {
-    let literal = parts.leaf();
     Ok(ExpressionPart::Operand(operand(Expression::Constant(literal.word(alloc)?))))
 }
 
-fn operation(parts: &mut Parts, operator: BinaryOperator) -> Result<ExpressionPart, AllocError>
-    requires { Fits (kinds (ActionOf.Operation operator)) (parts_view parts.now) }
-    ensures { IfOk result (λ p. expression_part_view p ≡ node (ActionOf.Operation operator) (parts_view parts.old)) }
+fn operation(
+    sign: Leaf,
+    right: Operand,
+    mut operations: Chain<Operation>,
+    operator: BinaryOperator,
+) -> Result<ExpressionPart, AllocError>
+    ensures { IfOk result (λ part. expression_part_view part ≡ PartData.operations ((record { place = (leaf_view sign.entry).place; operator = operator; operand = (operand_view right).expression }) ∷ (map operation_view operations))) }
 {
-    let sign = parts.leaf();
-    let right = parts.operand();
-    let mut operations = parts.operations();
     operations.put_front(Operation {
         place: sign.place,
         operator,
@@ -190,13 +242,13 @@ fn operation(parts: &mut Parts, operator: BinaryOperator) -> Result<ExpressionPa
     Ok(ExpressionPart::Operations(operations))
 }
 
-fn signed_operation(parts: &mut Parts) -> Result<ExpressionPart, AllocError>
-    requires { Fits (kinds ActionOf.SignedOperation) (parts_view parts.now) }
-    ensures { IfOk result (λ p. expression_part_view p ≡ node ActionOf.SignedOperation (parts_view parts.old)) }
+fn signed_operation(
+    sign: InfixOperator,
+    right: Operand,
+    mut operations: Chain<Operation>,
+) -> Result<ExpressionPart, AllocError>
+    ensures { IfOk result (λ part. expression_part_view part ≡ PartData.operations ((record { place = sign.place; operator = sign.operator; operand = (operand_view right).expression }) ∷ (map operation_view operations))) }
 {
-    let sign = parts.infix_operator();
-    let right = parts.operand();
-    let mut operations = parts.operations();
     operations.put_front(Operation {
         place: sign.place,
         operator: sign.operator,
@@ -205,45 +257,9 @@ fn signed_operation(parts: &mut Parts) -> Result<ExpressionPart, AllocError>
     Ok(ExpressionPart::Operations(operations))
 }
 
-fn binary_operand(alloc: Global, parts: &mut Parts) -> Result<ExpressionPart, AllocError>
-    requires { Fits (kinds ActionOf.Binary) (parts_view parts.now) }
-    ensures { IfOk result (λ p. expression_part_view p ≡ node ActionOf.Binary (parts_view parts.old)) }
+fn unary(alloc: Global, sign: PrefixOperator, right: Operand) -> Result<ExpressionPart, AllocError>
+    ensures { IfOk result (λ part. expression_part_view part ≡ PartData.operand (plain (Expressions.unary sign.place sign.operator (operand_view right).expression))) }
 {
-    let first = parts.operand();
-    let operations = parts.operations();
-    Ok(ExpressionPart::Operand(binary(alloc, first, operations)?))
-}
-
-fn conditional_operand(alloc: Global, parts: &mut Parts) -> Result<ExpressionPart, AllocError>
-    requires { Fits (kinds ActionOf.Conditional) (parts_view parts.now) }
-    ensures { IfOk result (λ p. expression_part_view p ≡ node ActionOf.Conditional (parts_view parts.old)) }
-{
-    let condition = parts.operand();
-    let branches = parts.branches();
-    Ok(ExpressionPart::Operand(conditional(alloc, condition, branches)?))
-}
-
-fn branches(parts: &mut Parts) -> ExpressionPart
-    requires { Fits (kinds ActionOf.Branches) (parts_view parts.now) }
-    ensures { expression_part_view result ≡ node ActionOf.Branches (parts_view parts.old) }
-{
-    let question = parts.leaf();
-    let then = parts.operand();
-    parts.leaf();
-    let otherwise = parts.operand();
-    ExpressionPart::Branches(Some(Branches {
-        question: question.place,
-        then: then.expression,
-        otherwise: otherwise.expression,
-    }))
-}
-
-fn unary(alloc: Global, parts: &mut Parts) -> Result<ExpressionPart, AllocError>
-    requires { Fits (kinds ActionOf.Unary) (parts_view parts.now) }
-    ensures { IfOk result (λ p. expression_part_view p ≡ node ActionOf.Unary (parts_view parts.old)) }
-{
-    let sign = parts.prefix_operator();
-    let right = parts.operand();
     Ok(ExpressionPart::Operand(operand(Expression::Unary {
         place: sign.place,
         operator: sign.operator,
@@ -251,209 +267,41 @@ fn unary(alloc: Global, parts: &mut Parts) -> Result<ExpressionPart, AllocError>
     })))
 }
 
-fn sizeof_operand(alloc: Global, parts: &mut Parts) -> Result<ExpressionPart, AllocError>
-    requires { Fits (kinds ActionOf.Sizeof) (parts_view parts.now) }
-    ensures { IfOk result (λ p. expression_part_view p ≡ node ActionOf.Sizeof (parts_view parts.old)) }
+fn type_name(specifiers: Chain<Specifier>, pointers: Chain<Pointer>) -> TypeName
+    ensures { type_name_view result ≡ Expressions.type_name (Views.specifiers_of (map specifier_view specifiers)) (pointers_view pointers) }
 {
-    let keyword = parts.leaf();
-    parts.leaf();
-    let of = parts.sizeof_operand();
-    Ok(ExpressionPart::Operand(operand(sizeof(alloc, keyword.place, of)?)))
-}
-
-fn sizeof_type(parts: &mut Parts) -> ExpressionPart
-    requires { Fits (kinds ActionOf.SizeofType) (parts_view parts.now) }
-    ensures { expression_part_view result ≡ node ActionOf.SizeofType (parts_view parts.old) }
-{
-    let type_name = parts.type_name();
-    ExpressionPart::SizeofOperand(SizeofOperand::Type(type_name))
-}
-
-fn sizeof_expression(parts: &mut Parts) -> ExpressionPart
-    requires { Fits (kinds ActionOf.SizeofExpression) (parts_view parts.now) }
-    ensures { expression_part_view result ≡ node ActionOf.SizeofExpression (parts_view parts.old) }
-{
-    let of = parts.operand();
-    ExpressionPart::SizeofOperand(SizeofOperand::Expression(of.expression))
-}
-
-fn bracket(alloc: Global, parts: &mut Parts) -> Result<ExpressionPart, AllocError>
-    requires { Fits (kinds ActionOf.Bracket) (parts_view parts.now) }
-    ensures { IfOk result (λ p. expression_part_view p ≡ node ActionOf.Bracket (parts_view parts.old)) }
-{
-    let bracket = parts.leaf();
-    let bracketed = parts.bracketed();
-    Ok(ExpressionPart::Operand(behind_bracket(alloc, bracket.place, bracketed)?))
-}
-
-fn cast(parts: &mut Parts) -> ExpressionPart
-    requires { Fits (kinds ActionOf.Cast) (parts_view parts.now) }
-    ensures { expression_part_view result ≡ node ActionOf.Cast (parts_view parts.old) }
-{
-    let type_name = parts.type_name();
-    parts.leaf();
-    let right = parts.operand();
-    ExpressionPart::Bracketed(Bracketed::Cast {
-        type_name,
-        operand: right.expression,
-    })
-}
-
-fn group(alloc: Global, parts: &mut Parts) -> Result<ExpressionPart, AllocError>
-    requires { Fits (kinds ActionOf.Group) (parts_view parts.now) }
-    ensures { IfOk result (λ p. expression_part_view p ≡ node ActionOf.Group (parts_view parts.old)) }
-{
-    let inner = parts.operand();
-    parts.leaf();
-    let postfixes = parts.postfixes();
-    Ok(ExpressionPart::Bracketed(Bracketed::Operand(postfixed(
-        alloc,
-        bracketed(inner),
-        postfixes,
-    )?)))
-}
-
-fn postfixes(parts: &mut Parts) -> Result<ExpressionPart, AllocError>
-    requires { Fits (kinds ActionOf.Postfixes) (parts_view parts.now) }
-    ensures { IfOk result (λ p. expression_part_view p ≡ node ActionOf.Postfixes (parts_view parts.old)) }
-{
-    let one = parts.postfix();
-    let mut postfixes = parts.postfixes();
-    postfixes.put_front(one)?;
-    Ok(ExpressionPart::Postfixes(postfixes))
-}
-
-fn postfixed_operand(alloc: Global, parts: &mut Parts) -> Result<ExpressionPart, AllocError>
-    requires { Fits (kinds ActionOf.Postfixed) (parts_view parts.now) }
-    ensures { IfOk result (λ p. expression_part_view p ≡ node ActionOf.Postfixed (parts_view parts.old)) }
-{
-    let inner = parts.operand();
-    let postfixes = parts.postfixes();
-    Ok(ExpressionPart::Operand(postfixed(alloc, inner, postfixes)?))
-}
-
-fn type_name(parts: &mut Parts) -> ExpressionPart
-    requires { Fits (kinds ActionOf.TypeName) (parts_view parts.now) }
-    ensures { expression_part_view result ≡ node ActionOf.TypeName (parts_view parts.old) }
-{
-    let specifiers = parts.specifiers();
-    let pointers = parts.pointers();
-    ExpressionPart::TypeName(TypeName {
+    TypeName {
         specifiers: specifiers.into_vec(),
         pointers: pointers.into_vec(),
-    })
+    }
 }
 
-fn index(parts: &mut Parts) -> ExpressionPart
-    requires { Fits (kinds ActionOf.Index) (parts_view parts.now) }
-    ensures { expression_part_view result ≡ node ActionOf.Index (parts_view parts.old) }
+fn initial_expression(_: Leaf, inner: Operand) -> Option<Expression>
+    ensures { option_map expression_view result ≡ Some (operand_view inner).expression }
 {
-    let bracket = parts.leaf();
-    let index = parts.operand();
-    ExpressionPart::Postfix(Postfix::Index {
-        place: bracket.place,
-        index: index.expression,
-    })
+    Some(inner.expression)
 }
 
-fn call(parts: &mut Parts) -> ExpressionPart
-    requires { Fits (kinds ActionOf.Call) (parts_view parts.now) }
-    ensures { expression_part_view result ≡ node ActionOf.Call (parts_view parts.old) }
+fn assignment_sign(sign: Leaf, operator: AssignmentOperator) -> AssignmentSign
+    ensures { result ≡ record { place = (leaf_view sign.entry).place; operator = operator } }
 {
-    let bracket = parts.leaf();
-    let arguments = parts.arguments();
-    ExpressionPart::Postfix(Postfix::Call {
-        place: bracket.place,
-        arguments: arguments.into_vec(),
-    })
-}
-
-fn first_argument(parts: &mut Parts) -> Result<ExpressionPart, AllocError>
-    requires { Fits (kinds ActionOf.FirstArgument) (parts_view parts.now) }
-    ensures { IfOk result (λ p. expression_part_view p ≡ node ActionOf.FirstArgument (parts_view parts.old)) }
-{
-    let argument = parts.operand();
-    let mut arguments = parts.arguments();
-    arguments.put_front(argument.expression)?;
-    Ok(ExpressionPart::Arguments(arguments))
-}
-
-fn argument(parts: &mut Parts) -> Result<ExpressionPart, AllocError>
-    requires { Fits (kinds ActionOf.Argument) (parts_view parts.now) }
-    ensures { IfOk result (λ p. expression_part_view p ≡ node ActionOf.Argument (parts_view parts.old)) }
-{
-    parts.leaf();
-    let argument = parts.operand();
-    let mut arguments = parts.arguments();
-    arguments.put_front(argument.expression)?;
-    Ok(ExpressionPart::Arguments(arguments))
-}
-
-fn member(alloc: Global, parts: &mut Parts) -> Result<ExpressionPart, AllocError>
-    requires { Fits (kinds ActionOf.Member) (parts_view parts.now) }
-    ensures { IfOk result (λ p. expression_part_view p ≡ node ActionOf.Member (parts_view parts.old)) }
-{
-    let sign = parts.leaf();
-    let member = parts.leaf();
-    Ok(ExpressionPart::Postfix(Postfix::Member {
-        place: sign.place,
-        member: member.word(alloc)?,
-    }))
-}
-
-fn arrow(alloc: Global, parts: &mut Parts) -> Result<ExpressionPart, AllocError>
-    requires { Fits (kinds ActionOf.Arrow) (parts_view parts.now) }
-    ensures { IfOk result (λ p. expression_part_view p ≡ node ActionOf.Arrow (parts_view parts.old)) }
-{
-    let sign = parts.leaf();
-    let member = parts.leaf();
-    Ok(ExpressionPart::Postfix(Postfix::Arrow {
-        place: sign.place,
-        member: member.word(alloc)?,
-    }))
-}
-
-fn some_expression(parts: &mut Parts) -> ExpressionPart
-    requires { Fits (kinds ActionOf.SomeExpression) (parts_view parts.now) }
-    ensures { expression_part_view result ≡ node ActionOf.SomeExpression (parts_view parts.old) }
-{
-    let inner = parts.operand();
-    ExpressionPart::OptionalExpression(Some(inner.expression))
-}
-
-fn initial_expression(parts: &mut Parts) -> ExpressionPart
-    requires { Fits (kinds ActionOf.InitialExpression) (parts_view parts.now) }
-    ensures { expression_part_view result ≡ node ActionOf.InitialExpression (parts_view parts.old) }
-{
-    parts.leaf();
-    let inner = parts.operand();
-    ExpressionPart::OptionalExpression(Some(inner.expression))
-}
-
-fn assignment_sign(parts: &mut Parts, operator: AssignmentOperator) -> ExpressionPart
-    requires { Fits (kinds (ActionOf.AssignmentSign operator)) (parts_view parts.now) }
-    ensures { expression_part_view result ≡ node (ActionOf.AssignmentSign operator) (parts_view parts.old) }
-{
-    let sign = parts.leaf();
-    ExpressionPart::AssignmentSign(AssignmentSign {
+    AssignmentSign {
         place: sign.place,
         operator,
-    })
+    }
 }
 
-fn step_sign(parts: &mut Parts, step: Step) -> ExpressionPart
-    requires { Fits (kinds (ActionOf.StepSign step)) (parts_view parts.now) }
-    ensures { expression_part_view result ≡ node (ActionOf.StepSign step) (parts_view parts.old) }
+fn step_sign(sign: Leaf, step: Step) -> StepSign
+    ensures { result ≡ record { place = (leaf_view sign.entry).place; step = step } }
 {
-    let sign = parts.leaf();
-    ExpressionPart::StepSign(StepSign {
+    StepSign {
         place: sign.place,
         step,
-    })
+    }
 }
 
 /// An expression that is not in brackets.
-fn operand(expression: Expression) -> Operand
+pub(crate) fn operand(expression: Expression) -> Operand
     ensures { operand_view result ≡ plain (expression_view expression) }
 {
     Operand {
@@ -462,95 +310,107 @@ fn operand(expression: Expression) -> Operand
     }
 }
 
-/// An expression in brackets.
-fn bracketed(inner: Operand) -> Operand
-    ensures { operand_view result ≡ bracketed (operand_view inner) }
-{
-    Operand {
-        expression: inner.expression,
-        bracketed: true,
-    }
-}
-
 /// An operand with operations behind it, or itself where there are none.
-fn binary(
+fn binary_operand(
     alloc: Global,
     first: Operand,
     operations: Chain<Operation>,
-) -> Result<Operand, AllocError>
-    ensures { IfOk result (λ o. operand_view o ≡ binary (operand_view first) (map operation_view operations)) }
+) -> Result<ExpressionPart, AllocError>
+    ensures { IfOk result (λ part. expression_part_view part ≡ PartData.operand (binary (operand_view first) (map operation_view operations))) }
 {
     if operations.is_empty() {
-        return Ok(first);
+        return Ok(ExpressionPart::Operand(first));
     }
-    Ok(operand(Expression::Binary {
+    Ok(ExpressionPart::Operand(operand(Expression::Binary {
         first: Box::new(alloc, first.expression)?,
         rest: operations.into_vec(),
-    }))
+    })))
 }
 
 /// A condition with its branches, or itself where there are none.
-fn conditional(
+fn conditional_operand(
     alloc: Global,
     condition: Operand,
     branches: Option<Branches>,
-) -> Result<Operand, AllocError>
-    ensures { IfOk result (λ o. operand_view o ≡ conditional (operand_view condition) (option_map branches_view branches)) }
+) -> Result<ExpressionPart, AllocError>
+    ensures { IfOk result (λ part. expression_part_view part ≡ PartData.operand (conditional (operand_view condition) (option_map branches_view branches))) }
 {
     match branches {
-        None => Ok(condition),
-        Some(branches) => Ok(operand(Expression::Conditional {
+        None => Ok(ExpressionPart::Operand(condition)),
+        Some(branches) => Ok(ExpressionPart::Operand(operand(Expression::Conditional {
             condition: Box::new(alloc, condition.expression)?,
             question: branches.question,
-            then: Box::new(alloc, branches.then)?,
-            otherwise: Box::new(alloc, branches.otherwise)?,
-        })),
+            then: branches.then,
+            otherwise: branches.otherwise,
+        }))),
     }
 }
 
-/// `sizeof` of an expression or of a type.
-fn sizeof(alloc: Global, place: Place, of: SizeofOperand) -> Result<Expression, AllocError>
-    ensures { IfOk result (λ e. expression_view e ≡ sizeof place (sizeof_operand_view of)) }
+fn branches(
+    alloc: Global,
+    question: Leaf,
+    then: Operand,
+    _: Leaf,
+    otherwise: Operand,
+) -> Result<ExpressionPart, AllocError>
+    ensures { IfOk result (λ part. expression_part_view part ≡ PartData.branches (Some (record { question = (leaf_view question.entry).place; then = (operand_view then).expression; otherwise = (operand_view otherwise).expression }))) }
 {
-    match of {
-        SizeofOperand::Type(type_name) => Ok(Expression::SizeofType { place, type_name }),
-        SizeofOperand::Expression(expression) => Ok(Expression::SizeofExpression {
-            place,
+    Ok(ExpressionPart::Branches(Some(Branches {
+        question: question.place,
+        then: Box::new(alloc, then.expression)?,
+        otherwise: Box::new(alloc, otherwise.expression)?,
+    })))
+}
+
+/// `sizeof` of an expression or of a type.
+fn sizeof_operand(
+    alloc: Global,
+    keyword: Leaf,
+    _: Leaf,
+    of: SizeofOperand,
+) -> Result<ExpressionPart, AllocError>
+    ensures { IfOk result (λ part. expression_part_view part ≡ PartData.operand (plain (sizeof (leaf_view keyword.entry).place (sizeof_operand_view of)))) }
+{
+    let expression = match of {
+        SizeofOperand::Type(type_name) => Expression::SizeofType {
+            place: keyword.place,
+            type_name,
+        },
+        SizeofOperand::Expression(expression) => Expression::SizeofExpression {
+            place: keyword.place,
             operand: Box::new(alloc, expression)?,
+        },
+    };
+    Ok(ExpressionPart::Operand(operand(expression)))
+}
+
+/// A cast, whose place is that of its bracket, or an expression in brackets.
+fn behind_bracket(bracket: Leaf, bracketed: Bracketed) -> Operand
+    ensures { operand_view result ≡ behind_bracket (leaf_view bracket.entry).place (bracketed_view bracketed) }
+{
+    match bracketed {
+        Bracketed::Operand(inner) => inner,
+        Bracketed::Cast {
+            type_name,
+            operand: right,
+        } => operand(Expression::Cast {
+            place: bracket.place,
+            type_name,
+            operand: right,
         }),
     }
 }
 
-/// A cast, whose place is that of its bracket, or an expression in brackets.
-fn behind_bracket(alloc: Global, place: Place, bracketed: Bracketed) -> Result<Operand, AllocError>
-    ensures { IfOk result (λ o. operand_view o ≡ behind_bracket place (bracketed_view bracketed)) }
-{
-    match bracketed {
-        Bracketed::Operand(inner) => Ok(inner),
-        Bracketed::Cast {
-            type_name,
-            operand: right,
-        } => Ok(operand(Expression::Cast {
-            place,
-            type_name,
-            operand: Box::new(alloc, right)?,
-        })),
-    }
-}
-
-/// An operand with postfixes behind it, or itself where there are none.
-fn postfixed(
+fn cast(
     alloc: Global,
-    inner: Operand,
-    postfixes: Chain<Postfix>,
-) -> Result<Operand, AllocError>
-    ensures { IfOk result (λ o. operand_view o ≡ postfixed (operand_view inner) (map postfix_view postfixes)) }
+    type_name: TypeName,
+    _: Leaf,
+    right: Operand,
+) -> Result<ExpressionPart, AllocError>
+    ensures { IfOk result (λ part. expression_part_view part ≡ PartData.bracketed (PartData.bracketed_cast (type_name_view type_name) (operand_view right).expression)) }
 {
-    if postfixes.is_empty() {
-        return Ok(inner);
-    }
-    Ok(operand(Expression::Postfix {
-        operand: Box::new(alloc, inner.expression)?,
-        postfixes: postfixes.into_vec(),
+    Ok(ExpressionPart::Bracketed(Bracketed::Cast {
+        type_name,
+        operand: Box::new(alloc, right.expression)?,
     }))
 }

@@ -1,17 +1,22 @@
-ghost use Rattle.std.specs.Prelude.{◌≡◌, map, IfOk};
-ghost use Rattle.c_program.specs.Views.{specifier_view, pointers_view};
-ghost use Rattle.c_program.specs.StatementViews.{external_view};
-ghost use Rattle.c_parts.specs.PartViews.{external_part_view, parts_view, name_rest_view, external_rest_view, leaf_view};
+ghost use Rattle.std.specs.Prelude.{◌≡◌, ◌∷◌, map, IfOk, Some};
+ghost use Rattle.std.specs.Option.{option_map};
+ghost use Rattle.c_program.specs.Expressions;
+ghost use Rattle.c_program.specs.Statements;
+ghost use Rattle.c_program.specs.Views;
+ghost use Rattle.c_program.specs.Views.{pointers_view, expression_view, specifier_view, bound_view};
+ghost use Rattle.c_program.specs.StatementViews.{block_view, parameter_view, external_view};
+ghost use Rattle.c_parts.specs.PartData;
+ghost use Rattle.c_parts.specs.PartViews.{leaf_view, parameter_name_view, name_rest_view, external_rest_view, external_part_view, parts_view};
 ghost use Rattle.c_parts.specs.Reading.{Fits};
-ghost use Rattle.c_nodes.specs.declared.external_nodes.ExternalAction.TheVariants as ActionOf;
-ghost use Rattle.c_nodes.specs.ExternalNodes.{kinds, node, external, named};
+ghost use Rattle.c_nodes.specs.ExternalNodes.{kinds, external, named, node};
 
 use crate::declarator_nodes::all_declarators;
 use c_parts::{
     Chain, ExternalPart, ExternalRest, FunctionRest, Leaf, NameRest, ParameterName, Parts,
 };
 use c_program::{
-    Bound, Declaration, External, Function, Parameter, Pointer, Specifier, TypeDefinition,
+    Block, Bound, Declaration, Expression, External, Function, Parameter, Pointer, Specifier,
+    TypeDefinition,
 };
 use std::alloc::{AllocError, Global};
 
@@ -68,59 +73,89 @@ pub(crate) fn external_node(
     ensures { IfOk result (λ p. external_part_view p ≡ node action (parts_view parts.old)) }
 {
     match action {
-        ExternalAction::Externals => externals(parts),
+        ExternalAction::Externals => externals(parts.external(), parts.externals()),
         ExternalAction::NoExternals => Ok(ExternalPart::Externals(Chain::new(alloc))),
-        ExternalAction::Unit => Ok(unit(parts)),
-        ExternalAction::TypeDefinition => type_definition(alloc, parts),
-        ExternalAction::Declared => Ok(declared(parts)),
+        ExternalAction::Unit => Ok(ExternalPart::Externals(parts.externals())),
+        ExternalAction::TypeDefinition => type_definition(
+            alloc,
+            parts.leaf(),
+            parts.specifiers(),
+            parts.pointers(),
+            parts.leaf(),
+        ),
+        ExternalAction::Declared => Ok(ExternalPart::External(external(
+            parts.specifiers(),
+            parts.external_rest(),
+        ))),
         ExternalAction::OnlyTypes => Ok(ExternalPart::ExternalRest(ExternalRest::Declarators(
             Chain::new(alloc),
         ))),
-        ExternalAction::Named => name_and_rest(alloc, parts),
-        ExternalAction::FunctionBehindName => Ok(function_behind_name(parts)),
-        ExternalAction::ObjectsBehindName => Ok(objects_behind_name(parts)),
-        ExternalAction::Function => function(parts),
-        ExternalAction::Parameters => parameters(parts),
+        ExternalAction::Named => name_and_rest(
+            alloc,
+            parts.pointers(),
+            parts.leaf(),
+            parts.name_rest(),
+        ),
+        ExternalAction::FunctionBehindName => Ok(ExternalPart::NameRest(NameRest::Function(
+            parts.function_rest(),
+        ))),
+        ExternalAction::ObjectsBehindName => Ok(ExternalPart::NameRest(NameRest::Objects(
+            parts.objects(),
+        ))),
+        ExternalAction::Function => function(
+            parts.leaf(),
+            parts.parameter(),
+            parts.parameters(),
+            parts.leaf(),
+            parts.optional_block(),
+        ),
+        ExternalAction::Parameters => parameters(
+            parts.leaf(),
+            parts.parameter(),
+            parts.parameters(),
+        ),
         ExternalAction::NoParameters => Ok(ExternalPart::Parameters(Chain::new(alloc))),
         ExternalAction::NoBody => Ok(ExternalPart::OptionalBlock(None)),
-        ExternalAction::SomeBody => Ok(some_body(parts)),
-        ExternalAction::Parameter => Ok(parameter(parts)),
-        ExternalAction::ParameterName => parameter_name(alloc, parts),
+        ExternalAction::SomeBody => Ok(ExternalPart::OptionalBlock(Some(parts.block()))),
+        ExternalAction::Parameter => Ok(ExternalPart::Parameter(parameter(
+            parts.specifiers(),
+            parts.pointers(),
+            parts.parameter_name(),
+        ))),
+        ExternalAction::ParameterName => parameter_name(
+            alloc,
+            parts.leaf(),
+            parts.optional_bound(),
+        ),
         ExternalAction::NoParameterName => Ok(ExternalPart::ParameterName(ParameterName {
             name: None,
             bound: None,
         })),
-        ExternalAction::ParameterBound => Ok(parameter_bound(parts)),
+        ExternalAction::ParameterBound => Ok(ExternalPart::OptionalBound(parameter_bound(
+            parts.leaf(),
+            parts.optional_expression(),
+            parts.leaf(),
+        ))),
         ExternalAction::NoParameterBound => Ok(ExternalPart::OptionalBound(None)),
     }
 }
 
-fn externals(parts: &mut Parts) -> Result<ExternalPart, AllocError>
-    requires { Fits (kinds ActionOf.Externals) (parts_view parts.now) }
-    ensures { IfOk result (λ p. external_part_view p ≡ node ActionOf.Externals (parts_view parts.old)) }
+fn externals(one: External, mut externals: Chain<External>) -> Result<ExternalPart, AllocError>
+    ensures { IfOk result (λ part. external_part_view part ≡ PartData.externals ((external_view one) ∷ (map external_view externals))) }
 {
-    let one = parts.external();
-    let mut externals = parts.externals();
     externals.put_front(one)?;
     Ok(ExternalPart::Externals(externals))
 }
 
-fn unit(parts: &mut Parts) -> ExternalPart
-    requires { Fits (kinds ActionOf.Unit) (parts_view parts.now) }
-    ensures { external_part_view result ≡ node ActionOf.Unit (parts_view parts.old) }
+fn type_definition(
+    alloc: Global,
+    keyword: Leaf,
+    specifiers: Chain<Specifier>,
+    pointers: Chain<Pointer>,
+    name: Leaf,
+) -> Result<ExternalPart, AllocError>
+    ensures { IfOk result (λ part. external_part_view part ≡ PartData.external (Statements.type_definition (record { place = (leaf_view keyword.entry).place; specifiers = Views.specifiers_of (map specifier_view specifiers); pointers = (pointers_view pointers); name = (leaf_view name.entry) }))) }
 {
-    let externals = parts.externals();
-    ExternalPart::Externals(externals)
-}
-
-fn type_definition(alloc: Global, parts: &mut Parts) -> Result<ExternalPart, AllocError>
-    requires { Fits (kinds ActionOf.TypeDefinition) (parts_view parts.now) }
-    ensures { IfOk result (λ p. external_part_view p ≡ node ActionOf.TypeDefinition (parts_view parts.old)) }
-{
-    let keyword = parts.leaf();
-    let specifiers = parts.specifiers();
-    let pointers = parts.pointers();
-    let name = parts.leaf();
     Ok(ExternalPart::External(External::TypeDefinition(TypeDefinition {
         place: keyword.place,
         specifiers: specifiers.into_vec(),
@@ -129,111 +164,76 @@ fn type_definition(alloc: Global, parts: &mut Parts) -> Result<ExternalPart, All
     })))
 }
 
-fn declared(parts: &mut Parts) -> ExternalPart
-    requires { Fits (kinds ActionOf.Declared) (parts_view parts.now) }
-    ensures { external_part_view result ≡ node ActionOf.Declared (parts_view parts.old) }
+fn name_and_rest(
+    alloc: Global,
+    pointers: Chain<Pointer>,
+    name: Leaf,
+    name_rest: NameRest,
+) -> Result<ExternalPart, AllocError>
+    ensures { IfOk result (λ part. external_part_view part ≡ PartData.external_rest (named (pointers_view pointers) (leaf_view name.entry) (name_rest_view name_rest))) }
 {
-    let specifiers = parts.specifiers();
-    let rest_of_it = parts.external_rest();
-    ExternalPart::External(external(specifiers, rest_of_it))
-}
-
-fn name_and_rest(alloc: Global, parts: &mut Parts) -> Result<ExternalPart, AllocError>
-    requires { Fits (kinds ActionOf.Named) (parts_view parts.now) }
-    ensures { IfOk result (λ p. external_part_view p ≡ node ActionOf.Named (parts_view parts.old)) }
-{
-    let pointers = parts.pointers();
-    let name = parts.leaf();
-    let name_rest = parts.name_rest();
     Ok(ExternalPart::ExternalRest(named(alloc, pointers, name, name_rest)?))
 }
 
-fn function_behind_name(parts: &mut Parts) -> ExternalPart
-    requires { Fits (kinds ActionOf.FunctionBehindName) (parts_view parts.now) }
-    ensures { external_part_view result ≡ node ActionOf.FunctionBehindName (parts_view parts.old) }
+fn function(
+    _: Leaf,
+    first: Parameter,
+    mut parameters: Chain<Parameter>,
+    _: Leaf,
+    body: Option<Block>,
+) -> Result<ExternalPart, AllocError>
+    ensures { IfOk result (λ part. external_part_view part ≡ PartData.function_rest (record { parameters = (parameter_view first) ∷ (map parameter_view parameters); body = (option_map block_view body) })) }
 {
-    let function = parts.function_rest();
-    ExternalPart::NameRest(NameRest::Function(function))
-}
-
-fn objects_behind_name(parts: &mut Parts) -> ExternalPart
-    requires { Fits (kinds ActionOf.ObjectsBehindName) (parts_view parts.now) }
-    ensures { external_part_view result ≡ node ActionOf.ObjectsBehindName (parts_view parts.old) }
-{
-    let objects = parts.objects();
-    ExternalPart::NameRest(NameRest::Objects(objects))
-}
-
-fn function(parts: &mut Parts) -> Result<ExternalPart, AllocError>
-    requires { Fits (kinds ActionOf.Function) (parts_view parts.now) }
-    ensures { IfOk result (λ p. external_part_view p ≡ node ActionOf.Function (parts_view parts.old)) }
-{
-    parts.leaf();
-    let first = parts.parameter();
-    let mut parameters = parts.parameters();
-    parts.leaf();
-    let body = parts.optional_block();
     parameters.put_front(first)?;
     Ok(ExternalPart::FunctionRest(FunctionRest { parameters, body }))
 }
 
-fn parameters(parts: &mut Parts) -> Result<ExternalPart, AllocError>
-    requires { Fits (kinds ActionOf.Parameters) (parts_view parts.now) }
-    ensures { IfOk result (λ p. external_part_view p ≡ node ActionOf.Parameters (parts_view parts.old)) }
+fn parameters(
+    _: Leaf,
+    one: Parameter,
+    mut parameters: Chain<Parameter>,
+) -> Result<ExternalPart, AllocError>
+    ensures { IfOk result (λ part. external_part_view part ≡ PartData.parameters ((parameter_view one) ∷ (map parameter_view parameters))) }
 {
-    parts.leaf();
-    let one = parts.parameter();
-    let mut parameters = parts.parameters();
     parameters.put_front(one)?;
     Ok(ExternalPart::Parameters(parameters))
 }
 
-fn some_body(parts: &mut Parts) -> ExternalPart
-    requires { Fits (kinds ActionOf.SomeBody) (parts_view parts.now) }
-    ensures { external_part_view result ≡ node ActionOf.SomeBody (parts_view parts.old) }
+fn parameter(
+    specifiers: Chain<Specifier>,
+    pointers: Chain<Pointer>,
+    name: ParameterName,
+) -> Parameter
+    ensures { parameter_view result ≡ record { specifiers = Views.specifiers_of (map specifier_view specifiers); pointers = (pointers_view pointers); name = (parameter_name_view name).name; bound = (parameter_name_view name).bound } }
 {
-    let body = parts.block();
-    ExternalPart::OptionalBlock(Some(body))
-}
-
-fn parameter(parts: &mut Parts) -> ExternalPart
-    requires { Fits (kinds ActionOf.Parameter) (parts_view parts.now) }
-    ensures { external_part_view result ≡ node ActionOf.Parameter (parts_view parts.old) }
-{
-    let specifiers = parts.specifiers();
-    let pointers = parts.pointers();
-    let name = parts.parameter_name();
-    ExternalPart::Parameter(Parameter {
+    Parameter {
         specifiers: specifiers.into_vec(),
         pointers: pointers.into_vec(),
         name: name.name,
         bound: name.bound,
-    })
+    }
 }
 
-fn parameter_name(alloc: Global, parts: &mut Parts) -> Result<ExternalPart, AllocError>
-    requires { Fits (kinds ActionOf.ParameterName) (parts_view parts.now) }
-    ensures { IfOk result (λ p. external_part_view p ≡ node ActionOf.ParameterName (parts_view parts.old)) }
+fn parameter_name(
+    alloc: Global,
+    name: Leaf,
+    bound: Option<Bound>,
+) -> Result<ExternalPart, AllocError>
+    ensures { IfOk result (λ part. external_part_view part ≡ PartData.parameter_name (record { name = Some (leaf_view name.entry); bound = (option_map bound_view bound) })) }
 {
-    let name = parts.leaf();
-    let bound = parts.optional_bound();
     Ok(ExternalPart::ParameterName(ParameterName {
         name: Some(name.word(alloc)?),
         bound,
     }))
 }
 
-fn parameter_bound(parts: &mut Parts) -> ExternalPart
-    requires { Fits (kinds ActionOf.ParameterBound) (parts_view parts.now) }
-    ensures { external_part_view result ≡ node ActionOf.ParameterBound (parts_view parts.old) }
+fn parameter_bound(_: Leaf, size: Option<Expression>, close: Leaf) -> Option<Bound>
+    ensures { option_map bound_view result ≡ Some (Expressions.bound (Views.maybe_of (option_map expression_view size)) (leaf_view close.entry).place) }
 {
-    parts.leaf();
-    let size = parts.optional_expression();
-    let close = parts.leaf();
-    ExternalPart::OptionalBound(Some(Bound {
+    Some(Bound {
         size,
         close: close.place,
-    }))
+    })
 }
 
 /// A declaration or a function.

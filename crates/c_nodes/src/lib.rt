@@ -5,6 +5,7 @@ mod action;
 mod declarator_nodes;
 mod expression_nodes;
 mod external_nodes;
+mod postfix_nodes;
 mod specifier_nodes;
 mod statement_nodes;
 mod switch_nodes;

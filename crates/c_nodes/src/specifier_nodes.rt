@@ -1,14 +1,15 @@
-ghost use Rattle.std.specs.Prelude.{◌≡◌, map, IfOk};
+ghost use Rattle.std.specs.Prelude.{◌≡◌, ◌∷◌, map, IfOk};
 ghost use Rattle.std.specs.Option.{option_map};
+ghost use Rattle.c_program.specs.Expressions;
 ghost use Rattle.c_program.specs.Views;
-ghost use Rattle.c_program.specs.Views.{specifier_view, declarator_view, member_view, enumerator_view};
-ghost use Rattle.c_parts.specs.PartViews.{declaration_part_view, parts_view, structure_view, enumeration_view};
+ghost use Rattle.c_program.specs.Views.{expression_view, member_view, enumerator_view, specifier_view, declarator_view};
+ghost use Rattle.c_parts.specs.PartData;
+ghost use Rattle.c_parts.specs.PartViews.{leaf_view, structure_view, enumeration_view, declaration_part_view, parts_view};
 ghost use Rattle.c_parts.specs.Reading.{Fits};
-ghost use Rattle.c_nodes.specs.declared.specifier_nodes.SpecifierAction.TheVariants as ActionOf;
-ghost use Rattle.c_nodes.specs.SpecifierNodes.{kinds, node, tagged_structure, struct_specifier, tagged_enumeration, enum_specifier};
+ghost use Rattle.c_nodes.specs.SpecifierNodes.{kinds, tagged_structure, struct_specifier, tagged_enumeration, enum_specifier, node};
 
-use c_parts::{Chain, DeclarationPart, Enumeration, Parts, Structure};
-use c_program::{Declarator, Enumerator, Keyword, MemberDeclaration, Specifier, Word};
+use c_parts::{Chain, DeclarationPart, Enumeration, Leaf, Parts, Structure};
+use c_program::{Declarator, Enumerator, Expression, Keyword, MemberDeclaration, Specifier, Word};
 use misra_base::Place;
 use std::alloc::{AllocError, Global};
 
@@ -77,184 +78,187 @@ pub(crate) fn specifier_node(
     ensures { IfOk result (λ p. declaration_part_view p ≡ node action (parts_view parts.old)) }
 {
     match action {
-        SpecifierAction::Specifiers => specifiers(parts),
+        SpecifierAction::Specifiers => specifiers(parts.specifier(), parts.specifiers()),
         SpecifierAction::NoSpecifiers => Ok(DeclarationPart::Specifiers(Chain::new(alloc))),
-        SpecifierAction::Keyword(keyword) => Ok(keyword_specifier(parts, keyword)),
-        SpecifierAction::LibraryType => library_type(alloc, parts),
-        SpecifierAction::TypedefName => typedef_name(alloc, parts),
-        SpecifierAction::Struct => Ok(structure(parts)),
-        SpecifierAction::TaggedStructure => structure_with_tag(alloc, parts),
-        SpecifierAction::UntaggedStructure => Ok(untagged_structure(parts)),
-        SpecifierAction::SomeMembers => Ok(some_members(parts)),
+        SpecifierAction::Keyword(keyword) => Ok(DeclarationPart::Specifier(keyword_specifier(
+            parts.leaf(),
+            keyword,
+        ))),
+        SpecifierAction::LibraryType => library_type(alloc, parts.leaf()),
+        SpecifierAction::TypedefName => typedef_name(alloc, parts.leaf()),
+        SpecifierAction::Struct => Ok(DeclarationPart::Specifier(structure(
+            parts.leaf(),
+            parts.structure(),
+        ))),
+        SpecifierAction::TaggedStructure => structure_with_tag(
+            alloc,
+            parts.leaf(),
+            parts.optional_members(),
+        ),
+        SpecifierAction::UntaggedStructure => Ok(DeclarationPart::Structure(
+            Structure::Declaration {
+                tag: None,
+                members: parts.members(),
+            },
+        )),
+        SpecifierAction::SomeMembers => Ok(DeclarationPart::OptionalMembers(Some(parts.members()))),
         SpecifierAction::NoMembers => Ok(DeclarationPart::OptionalMembers(None)),
-        SpecifierAction::MembersInBraces => Ok(members_in_braces(parts)),
-        SpecifierAction::MemberDeclaration => members(parts),
+        SpecifierAction::MembersInBraces => {
+            parts.leaf();
+            Ok(DeclarationPart::Members(parts.members()))
+        },
+        SpecifierAction::MemberDeclaration => members(
+            parts.specifiers(),
+            parts.declarator(),
+            parts.declarators(),
+            parts.leaf(),
+            parts.members(),
+        ),
         SpecifierAction::NoMoreMembers => Ok(DeclarationPart::Members(Chain::new(alloc))),
-        SpecifierAction::Declarators => declarators(parts),
+        SpecifierAction::Declarators => declarators(
+            parts.leaf(),
+            parts.declarator(),
+            parts.declarators(),
+        ),
         SpecifierAction::NoDeclarators => Ok(DeclarationPart::Declarators(Chain::new(alloc))),
-        SpecifierAction::Enum => Ok(enumeration(parts)),
-        SpecifierAction::TaggedEnumeration => enumeration_with_tag(alloc, parts),
-        SpecifierAction::UntaggedEnumeration => Ok(untagged_enumeration(parts)),
-        SpecifierAction::SomeEnumerators => Ok(some_enumerators(parts)),
+        SpecifierAction::Enum => Ok(DeclarationPart::Specifier(enumeration(
+            parts.leaf(),
+            parts.enumeration(),
+        ))),
+        SpecifierAction::TaggedEnumeration => enumeration_with_tag(
+            alloc,
+            parts.leaf(),
+            parts.optional_enumerators(),
+        ),
+        SpecifierAction::UntaggedEnumeration => Ok(DeclarationPart::Enumeration(
+            Enumeration::Declaration {
+                tag: None,
+                enumerators: parts.enumerators(),
+            },
+        )),
+        SpecifierAction::SomeEnumerators => Ok(DeclarationPart::OptionalEnumerators(Some(
+            parts.enumerators(),
+        ))),
         SpecifierAction::NoEnumerators => Ok(DeclarationPart::OptionalEnumerators(None)),
-        SpecifierAction::EnumeratorsInBraces => enumerators_in_braces(alloc, parts),
-        SpecifierAction::EnumeratorsBehindComma => Ok(enumerators_behind_comma(parts)),
-        SpecifierAction::EnumeratorsAgain => Ok(enumerators_again(parts)),
-        SpecifierAction::Enumerator => enumerator(alloc, parts),
+        SpecifierAction::EnumeratorsInBraces => enumerators_in_braces(
+            alloc,
+            parts.leaf(),
+            parts.leaf(),
+            parts.optional_expression(),
+            parts.enumerators(),
+        ),
+        SpecifierAction::EnumeratorsBehindComma => {
+            parts.leaf();
+            Ok(DeclarationPart::Enumerators(parts.enumerators()))
+        },
+        SpecifierAction::EnumeratorsAgain => Ok(DeclarationPart::Enumerators(parts.enumerators())),
+        SpecifierAction::Enumerator => enumerator(
+            alloc,
+            parts.leaf(),
+            parts.optional_expression(),
+            parts.enumerators(),
+        ),
         SpecifierAction::NoMoreEnumerators => Ok(DeclarationPart::Enumerators(Chain::new(alloc))),
     }
 }
 
-fn specifiers(parts: &mut Parts) -> Result<DeclarationPart, AllocError>
-    requires { Fits (kinds ActionOf.Specifiers) (parts_view parts.now) }
-    ensures { IfOk result (λ p. declaration_part_view p ≡ node ActionOf.Specifiers (parts_view parts.old)) }
+fn specifiers(
+    one: Specifier,
+    mut specifiers: Chain<Specifier>,
+) -> Result<DeclarationPart, AllocError>
+    ensures { IfOk result (λ part. declaration_part_view part ≡ PartData.specifiers ((specifier_view one) ∷ (map specifier_view specifiers))) }
 {
-    let one = parts.specifier();
-    let mut specifiers = parts.specifiers();
     specifiers.put_front(one)?;
     Ok(DeclarationPart::Specifiers(specifiers))
 }
 
-fn keyword_specifier(parts: &mut Parts, keyword: Keyword) -> DeclarationPart
-    requires { Fits (kinds (ActionOf.Keyword keyword)) (parts_view parts.now) }
-    ensures { declaration_part_view result ≡ node (ActionOf.Keyword keyword) (parts_view parts.old) }
+fn keyword_specifier(word: Leaf, keyword: Keyword) -> Specifier
+    ensures { specifier_view result ≡ Expressions.keyword (leaf_view word.entry).place keyword }
 {
-    let word = parts.leaf();
-    DeclarationPart::Specifier(Specifier::Keyword {
+    Specifier::Keyword {
         place: word.place,
         keyword,
-    })
+    }
 }
 
-fn library_type(alloc: Global, parts: &mut Parts) -> Result<DeclarationPart, AllocError>
-    requires { Fits (kinds ActionOf.LibraryType) (parts_view parts.now) }
-    ensures { IfOk result (λ p. declaration_part_view p ≡ node ActionOf.LibraryType (parts_view parts.old)) }
+fn library_type(alloc: Global, word: Leaf) -> Result<DeclarationPart, AllocError>
+    ensures { IfOk result (λ part. declaration_part_view part ≡ PartData.specifier (Expressions.library_type (leaf_view word.entry))) }
 {
-    let word = parts.leaf();
     Ok(DeclarationPart::Specifier(Specifier::LibraryType(word.word(alloc)?)))
 }
 
-fn typedef_name(alloc: Global, parts: &mut Parts) -> Result<DeclarationPart, AllocError>
-    requires { Fits (kinds ActionOf.TypedefName) (parts_view parts.now) }
-    ensures { IfOk result (λ p. declaration_part_view p ≡ node ActionOf.TypedefName (parts_view parts.old)) }
+fn typedef_name(alloc: Global, word: Leaf) -> Result<DeclarationPart, AllocError>
+    ensures { IfOk result (λ part. declaration_part_view part ≡ PartData.specifier (Expressions.typedef_name (leaf_view word.entry))) }
 {
-    let word = parts.leaf();
     Ok(DeclarationPart::Specifier(Specifier::TypedefName(word.word(alloc)?)))
 }
 
-fn structure(parts: &mut Parts) -> DeclarationPart
-    requires { Fits (kinds ActionOf.Struct) (parts_view parts.now) }
-    ensures { declaration_part_view result ≡ node ActionOf.Struct (parts_view parts.old) }
+fn structure(keyword: Leaf, structure: Structure) -> Specifier
+    ensures { specifier_view result ≡ struct_specifier (leaf_view keyword.entry).place (structure_view structure) }
 {
-    let keyword = parts.leaf();
-    let structure = parts.structure();
-    DeclarationPart::Specifier(struct_specifier(keyword.place, structure))
+    struct_specifier(keyword.place, structure)
 }
 
-fn structure_with_tag(alloc: Global, parts: &mut Parts) -> Result<DeclarationPart, AllocError>
-    requires { Fits (kinds ActionOf.TaggedStructure) (parts_view parts.now) }
-    ensures { IfOk result (λ p. declaration_part_view p ≡ node ActionOf.TaggedStructure (parts_view parts.old)) }
+fn structure_with_tag(
+    alloc: Global,
+    tag: Leaf,
+    members: Option<Chain<MemberDeclaration>>,
+) -> Result<DeclarationPart, AllocError>
+    ensures { IfOk result (λ part. declaration_part_view part ≡ PartData.structure (tagged_structure (leaf_view tag.entry) (option_map (map member_view) members))) }
 {
-    let tag = parts.leaf();
-    let members = parts.optional_members();
     Ok(DeclarationPart::Structure(tagged_structure(tag.word(alloc)?, members)))
 }
 
-fn untagged_structure(parts: &mut Parts) -> DeclarationPart
-    requires { Fits (kinds ActionOf.UntaggedStructure) (parts_view parts.now) }
-    ensures { declaration_part_view result ≡ node ActionOf.UntaggedStructure (parts_view parts.old) }
+fn members(
+    specifiers: Chain<Specifier>,
+    first: Declarator,
+    mut others: Chain<Declarator>,
+    _: Leaf,
+    mut members: Chain<MemberDeclaration>,
+) -> Result<DeclarationPart, AllocError>
+    ensures { IfOk result (λ part. declaration_part_view part ≡ PartData.members ((record { specifiers = Views.specifiers_of (map specifier_view specifiers); declarators = Views.declarators_of ((declarator_view first) ∷ (map declarator_view others)) }) ∷ (map member_view members))) }
 {
-    let members = parts.members();
-    DeclarationPart::Structure(Structure::Declaration { tag: None, members })
-}
-
-fn some_members(parts: &mut Parts) -> DeclarationPart
-    requires { Fits (kinds ActionOf.SomeMembers) (parts_view parts.now) }
-    ensures { declaration_part_view result ≡ node ActionOf.SomeMembers (parts_view parts.old) }
-{
-    let members = parts.members();
-    DeclarationPart::OptionalMembers(Some(members))
-}
-
-fn members_in_braces(parts: &mut Parts) -> DeclarationPart
-    requires { Fits (kinds ActionOf.MembersInBraces) (parts_view parts.now) }
-    ensures { declaration_part_view result ≡ node ActionOf.MembersInBraces (parts_view parts.old) }
-{
-    parts.leaf();
-    let members = parts.members();
-    DeclarationPart::Members(members)
-}
-
-fn members(parts: &mut Parts) -> Result<DeclarationPart, AllocError>
-    requires { Fits (kinds ActionOf.MemberDeclaration) (parts_view parts.now) }
-    ensures { IfOk result (λ p. declaration_part_view p ≡ node ActionOf.MemberDeclaration (parts_view parts.old)) }
-{
-    let specifiers = parts.specifiers();
-    let first = parts.declarator();
-    let mut others = parts.declarators();
-    parts.leaf();
-    let mut members = parts.members();
     others.put_front(first)?;
     members.put_front(member_declaration(specifiers, others))?;
     Ok(DeclarationPart::Members(members))
 }
 
-fn declarators(parts: &mut Parts) -> Result<DeclarationPart, AllocError>
-    requires { Fits (kinds ActionOf.Declarators) (parts_view parts.now) }
-    ensures { IfOk result (λ p. declaration_part_view p ≡ node ActionOf.Declarators (parts_view parts.old)) }
+fn declarators(
+    _: Leaf,
+    one: Declarator,
+    mut declarators: Chain<Declarator>,
+) -> Result<DeclarationPart, AllocError>
+    ensures { IfOk result (λ part. declaration_part_view part ≡ PartData.declarators ((declarator_view one) ∷ (map declarator_view declarators))) }
 {
-    parts.leaf();
-    let one = parts.declarator();
-    let mut declarators = parts.declarators();
     declarators.put_front(one)?;
     Ok(DeclarationPart::Declarators(declarators))
 }
 
-fn enumeration(parts: &mut Parts) -> DeclarationPart
-    requires { Fits (kinds ActionOf.Enum) (parts_view parts.now) }
-    ensures { declaration_part_view result ≡ node ActionOf.Enum (parts_view parts.old) }
+fn enumeration(keyword: Leaf, enumeration: Enumeration) -> Specifier
+    ensures { specifier_view result ≡ enum_specifier (leaf_view keyword.entry).place (enumeration_view enumeration) }
 {
-    let keyword = parts.leaf();
-    let enumeration = parts.enumeration();
-    DeclarationPart::Specifier(enum_specifier(keyword.place, enumeration))
+    enum_specifier(keyword.place, enumeration)
 }
 
-fn enumeration_with_tag(alloc: Global, parts: &mut Parts) -> Result<DeclarationPart, AllocError>
-    requires { Fits (kinds ActionOf.TaggedEnumeration) (parts_view parts.now) }
-    ensures { IfOk result (λ p. declaration_part_view p ≡ node ActionOf.TaggedEnumeration (parts_view parts.old)) }
+fn enumeration_with_tag(
+    alloc: Global,
+    tag: Leaf,
+    enumerators: Option<Chain<Enumerator>>,
+) -> Result<DeclarationPart, AllocError>
+    ensures { IfOk result (λ part. declaration_part_view part ≡ PartData.enumeration (tagged_enumeration (leaf_view tag.entry) (option_map (map enumerator_view) enumerators))) }
 {
-    let tag = parts.leaf();
-    let enumerators = parts.optional_enumerators();
     Ok(DeclarationPart::Enumeration(tagged_enumeration(tag.word(alloc)?, enumerators)))
 }
 
-fn untagged_enumeration(parts: &mut Parts) -> DeclarationPart
-    requires { Fits (kinds ActionOf.UntaggedEnumeration) (parts_view parts.now) }
-    ensures { declaration_part_view result ≡ node ActionOf.UntaggedEnumeration (parts_view parts.old) }
+fn enumerators_in_braces(
+    alloc: Global,
+    _: Leaf,
+    name: Leaf,
+    value: Option<Expression>,
+    mut enumerators: Chain<Enumerator>,
+) -> Result<DeclarationPart, AllocError>
+    ensures { IfOk result (λ part. declaration_part_view part ≡ PartData.enumerators ((record { name = (leaf_view name.entry); value = Views.maybe_of (option_map expression_view value) }) ∷ (map enumerator_view enumerators))) }
 {
-    let enumerators = parts.enumerators();
-    DeclarationPart::Enumeration(Enumeration::Declaration {
-        tag: None,
-        enumerators,
-    })
-}
-
-fn some_enumerators(parts: &mut Parts) -> DeclarationPart
-    requires { Fits (kinds ActionOf.SomeEnumerators) (parts_view parts.now) }
-    ensures { declaration_part_view result ≡ node ActionOf.SomeEnumerators (parts_view parts.old) }
-{
-    let enumerators = parts.enumerators();
-    DeclarationPart::OptionalEnumerators(Some(enumerators))
-}
-
-fn enumerators_in_braces(alloc: Global, parts: &mut Parts) -> Result<DeclarationPart, AllocError>
-    requires { Fits (kinds ActionOf.EnumeratorsInBraces) (parts_view parts.now) }
-    ensures { IfOk result (λ p. declaration_part_view p ≡ node ActionOf.EnumeratorsInBraces (parts_view parts.old)) }
-{
-    parts.leaf();
-    let name = parts.leaf();
-    let value = parts.optional_expression();
-    let mut enumerators = parts.enumerators();
     enumerators.put_front(Enumerator {
         name: name.word(alloc)?,
         value,
@@ -262,30 +266,14 @@ fn enumerators_in_braces(alloc: Global, parts: &mut Parts) -> Result<Declaration
     Ok(DeclarationPart::Enumerators(enumerators))
 }
 
-fn enumerators_behind_comma(parts: &mut Parts) -> DeclarationPart
-    requires { Fits (kinds ActionOf.EnumeratorsBehindComma) (parts_view parts.now) }
-    ensures { declaration_part_view result ≡ node ActionOf.EnumeratorsBehindComma (parts_view parts.old) }
+fn enumerator(
+    alloc: Global,
+    name: Leaf,
+    value: Option<Expression>,
+    mut enumerators: Chain<Enumerator>,
+) -> Result<DeclarationPart, AllocError>
+    ensures { IfOk result (λ part. declaration_part_view part ≡ PartData.enumerators ((record { name = (leaf_view name.entry); value = Views.maybe_of (option_map expression_view value) }) ∷ (map enumerator_view enumerators))) }
 {
-    parts.leaf();
-    let enumerators = parts.enumerators();
-    DeclarationPart::Enumerators(enumerators)
-}
-
-fn enumerators_again(parts: &mut Parts) -> DeclarationPart
-    requires { Fits (kinds ActionOf.EnumeratorsAgain) (parts_view parts.now) }
-    ensures { declaration_part_view result ≡ node ActionOf.EnumeratorsAgain (parts_view parts.old) }
-{
-    let enumerators = parts.enumerators();
-    DeclarationPart::Enumerators(enumerators)
-}
-
-fn enumerator(alloc: Global, parts: &mut Parts) -> Result<DeclarationPart, AllocError>
-    requires { Fits (kinds ActionOf.Enumerator) (parts_view parts.now) }
-    ensures { IfOk result (λ p. declaration_part_view p ≡ node ActionOf.Enumerator (parts_view parts.old)) }
-{
-    let name = parts.leaf();
-    let value = parts.optional_expression();
-    let mut enumerators = parts.enumerators();
     enumerators.put_front(Enumerator {
         name: name.word(alloc)?,
         value,

@@ -1,11 +1,20 @@
-ghost use Rattle.std.specs.Prelude.{◌≡◌, IfOk};
-ghost use Rattle.c_parts.specs.PartViews.{statement_part_view, parts_view};
+ghost use Rattle.std.specs.Prelude.{◌≡◌, ◌∷◌, map, IfOk};
+ghost use Rattle.std.specs.Option.{option_map};
+ghost use Rattle.c_program.specs.Statements;
+ghost use Rattle.c_program.specs.Views;
+ghost use Rattle.c_program.specs.Views.{pointers_view, expression_view, specifier_view};
+ghost use Rattle.c_program.specs.StatementViews;
+ghost use Rattle.c_program.specs.StatementViews.{init_declarator_view, simple_view, leave_view, for_start_view, statement_view, block_view, item_view, otherwise_view, body_view, clause_view, if_view};
+ghost use Rattle.c_parts.specs.PartData;
+ghost use Rattle.c_parts.specs.PartViews.{leaf_view, operand_view, statement_part_view, parts_view};
 ghost use Rattle.c_parts.specs.Reading.{Fits};
-ghost use Rattle.c_nodes.specs.declared.statement_nodes.StatementAction.TheVariants as ActionOf;
 ghost use Rattle.c_nodes.specs.StatementNodes.{kinds, node};
 
-use c_parts::{Chain, Parts, StatementPart};
-use c_program::{Block, Declaration, ForStart, If, Item, Otherwise, Statement};
+use c_parts::{Chain, Leaf, Operand, Parts, StatementPart};
+use c_program::{
+    Block, Body, Clause, Declaration, Expression, ForStart, If, InitDeclarator, Item, Leave,
+    Otherwise, Pointer, Simple, Specifier, Statement,
+};
 use std::alloc::{AllocError, Global};
 
 /// What a production of statements makes of its parts.
@@ -75,63 +84,119 @@ pub(crate) fn statement_node(
     ensures { IfOk result (λ p. statement_part_view p ≡ node action (parts_view parts.old)) }
 {
     match action {
-        StatementAction::Block => Ok(block(parts)),
-        StatementAction::Items => items(parts),
+        StatementAction::Block => Ok(StatementPart::Block(block(parts.leaf(), parts.items()))),
+        StatementAction::Items => items(parts.item(), parts.items()),
         StatementAction::NoItems => Ok(StatementPart::Items(Chain::new(alloc))),
-        StatementAction::DeclarationItem => declaration_item(alloc, parts),
-        StatementAction::StatementItem => statement_item(alloc, parts),
-        StatementAction::LeaveItem => leave_item(alloc, parts),
-        StatementAction::BlockStatement => block_statement(alloc, parts),
-        StatementAction::IfStatement => if_statement(alloc, parts),
-        StatementAction::While => while_statement(alloc, parts),
-        StatementAction::Do => do_statement(alloc, parts),
-        StatementAction::For => for_statement(alloc, parts),
-        StatementAction::Switch => switch_statement(alloc, parts),
-        StatementAction::Continue => continue_statement(alloc, parts),
-        StatementAction::SimpleStatement => simple_statement(alloc, parts),
-        StatementAction::Empty => empty(alloc, parts),
-        StatementAction::If => Ok(if_node(parts)),
-        StatementAction::Else => Ok(otherwise(parts)),
+        StatementAction::DeclarationItem => declaration_item(
+            alloc,
+            parts.specifiers(),
+            parts.init_declarators(),
+        ),
+        StatementAction::StatementItem => statement_item(alloc, parts.statement()),
+        StatementAction::LeaveItem => leave_item(alloc, parts.leave()),
+        StatementAction::BlockStatement => block_statement(alloc, parts.block()),
+        StatementAction::IfStatement => if_statement(alloc, parts.if_statement()),
+        StatementAction::While => while_statement(
+            alloc,
+            parts.leaf(),
+            parts.leaf(),
+            parts.operand(),
+            parts.leaf(),
+            parts.block(),
+        ),
+        StatementAction::Do => do_statement(
+            alloc,
+            parts.leaf(),
+            parts.block(),
+            parts.leaf(),
+            parts.leaf(),
+            parts.operand(),
+        ),
+        StatementAction::For => for_statement(
+            alloc,
+            parts.leaf(),
+            parts.leaf(),
+            parts.optional_for_start(),
+            parts.leaf(),
+            parts.optional_expression(),
+            parts.leaf(),
+            parts.optional_simple(),
+            parts.leaf(),
+            parts.block(),
+        ),
+        StatementAction::Switch => switch_statement(
+            alloc,
+            parts.leaf(),
+            parts.leaf(),
+            parts.operand(),
+            parts.leaf(),
+            parts.leaf(),
+            parts.clauses(),
+            parts.optional_body(),
+        ),
+        StatementAction::Continue => continue_statement(alloc, parts.leaf()),
+        StatementAction::SimpleStatement => simple_statement(alloc, parts.simple()),
+        StatementAction::Empty => empty(alloc, parts.leaf()),
+        StatementAction::If => Ok(StatementPart::IfStatement(if_node(
+            parts.leaf(),
+            parts.leaf(),
+            parts.operand(),
+            parts.leaf(),
+            parts.block(),
+            parts.otherwise(),
+        ))),
+        StatementAction::Else => {
+            parts.leaf();
+            Ok(StatementPart::Otherwise(Some(parts.otherwise_branch())))
+        }
         StatementAction::NoElse => Ok(StatementPart::Otherwise(None)),
-        StatementAction::OtherwiseBlock => Ok(otherwise_block(parts)),
-        StatementAction::OtherwiseIf => otherwise_if(alloc, parts),
-        StatementAction::SomeForStart => Ok(some_for_start(parts)),
+        StatementAction::OtherwiseBlock => Ok(StatementPart::OtherwiseBranch(Otherwise::Block(
+            parts.block(),
+        ))),
+        StatementAction::OtherwiseIf => otherwise_if(alloc, parts.if_statement()),
+        StatementAction::SomeForStart => Ok(StatementPart::OptionalForStart(Some(
+            parts.for_start(),
+        ))),
         StatementAction::NoForStart => Ok(StatementPart::OptionalForStart(None)),
-        StatementAction::StartDeclaration => start_declaration(alloc, parts),
-        StatementAction::StartSimple => Ok(start_simple(parts)),
-        StatementAction::SomeSimple => Ok(some_simple(parts)),
+        StatementAction::StartDeclaration => start_declaration(
+            alloc,
+            parts.specifiers(),
+            parts.pointers(),
+            parts.leaf(),
+            parts.leaf(),
+            parts.operand(),
+        ),
+        StatementAction::StartSimple => Ok(StatementPart::ForStart(ForStart::Simple(
+            parts.simple(),
+        ))),
+        StatementAction::SomeSimple => Ok(StatementPart::OptionalSimple(Some(parts.simple()))),
         StatementAction::NoSimple => Ok(StatementPart::OptionalSimple(None)),
     }
 }
 
-fn block(parts: &mut Parts) -> StatementPart
-    requires { Fits (kinds ActionOf.Block) (parts_view parts.now) }
-    ensures { statement_part_view result ≡ node ActionOf.Block (parts_view parts.old) }
+fn block(brace: Leaf, items: Chain<Item>) -> Block
+    ensures { block_view result ≡ Statements.block (leaf_view brace.entry).place (StatementViews.items_of (map item_view items)) }
 {
-    let brace = parts.leaf();
-    let items = parts.items();
-    StatementPart::Block(Block {
+    Block {
         place: brace.place,
         items: items.into_vec(),
-    })
+    }
 }
 
-fn items(parts: &mut Parts) -> Result<StatementPart, AllocError>
-    requires { Fits (kinds ActionOf.Items) (parts_view parts.now) }
-    ensures { IfOk result (λ p. statement_part_view p ≡ node ActionOf.Items (parts_view parts.old)) }
+fn items(one: Item, mut items: Chain<Item>) -> Result<StatementPart, AllocError>
+    ensures { IfOk result (λ part. statement_part_view part ≡ PartData.items ((item_view one) ∷ (map item_view items))) }
 {
-    let one = parts.item();
-    let mut items = parts.items();
     items.put_front(one)?;
     Ok(StatementPart::Items(items))
 }
 
-fn declaration_item(alloc: Global, parts: &mut Parts) -> Result<StatementPart, AllocError>
-    requires { Fits (kinds ActionOf.DeclarationItem) (parts_view parts.now) }
-    ensures { IfOk result (λ p. statement_part_view p ≡ node ActionOf.DeclarationItem (parts_view parts.old)) }
+fn declaration_item(
+    alloc: Global,
+    specifiers: Chain<Specifier>,
+    declarators: Chain<InitDeclarator>,
+) -> Result<StatementPart, AllocError>
+    ensures { IfOk result (λ part. statement_part_view part ≡ PartData.item (Statements.declaration_item (record { specifiers = Views.specifiers_of (map specifier_view specifiers); declarators = (map init_declarator_view declarators) }))) }
 {
-    let specifiers = parts.specifiers();
-    let declarators = parts.init_declarators();
     Ok(StatementPart::Item(Box::new(
         alloc,
         Item::Declaration(Declaration {
@@ -141,47 +206,40 @@ fn declaration_item(alloc: Global, parts: &mut Parts) -> Result<StatementPart, A
     )?))
 }
 
-fn statement_item(alloc: Global, parts: &mut Parts) -> Result<StatementPart, AllocError>
-    requires { Fits (kinds ActionOf.StatementItem) (parts_view parts.now) }
-    ensures { IfOk result (λ p. statement_part_view p ≡ node ActionOf.StatementItem (parts_view parts.old)) }
+fn statement_item(alloc: Global, statement: Statement) -> Result<StatementPart, AllocError>
+    ensures { IfOk result (λ part. statement_part_view part ≡ PartData.item (Statements.statement_item (statement_view statement))) }
 {
-    let statement = parts.statement();
     Ok(StatementPart::Item(Box::new(alloc, Item::Statement(statement))?))
 }
 
-fn leave_item(alloc: Global, parts: &mut Parts) -> Result<StatementPart, AllocError>
-    requires { Fits (kinds ActionOf.LeaveItem) (parts_view parts.now) }
-    ensures { IfOk result (λ p. statement_part_view p ≡ node ActionOf.LeaveItem (parts_view parts.old)) }
+fn leave_item(alloc: Global, leave: Leave) -> Result<StatementPart, AllocError>
+    ensures { IfOk result (λ part. statement_part_view part ≡ PartData.item (Statements.leave_item (leave_view leave))) }
 {
-    let leave = parts.leave();
     Ok(StatementPart::Item(Box::new(alloc, Item::Leave(leave))?))
 }
 
-fn block_statement(alloc: Global, parts: &mut Parts) -> Result<StatementPart, AllocError>
-    requires { Fits (kinds ActionOf.BlockStatement) (parts_view parts.now) }
-    ensures { IfOk result (λ p. statement_part_view p ≡ node ActionOf.BlockStatement (parts_view parts.old)) }
+fn block_statement(alloc: Global, block: Block) -> Result<StatementPart, AllocError>
+    ensures { IfOk result (λ part. statement_part_view part ≡ PartData.statement (Statements.block_statement (block_view block))) }
 {
-    let block = parts.block();
     Ok(StatementPart::Statement(Box::new(alloc, Statement::Block(block))?))
 }
 
-fn if_statement(alloc: Global, parts: &mut Parts) -> Result<StatementPart, AllocError>
-    requires { Fits (kinds ActionOf.IfStatement) (parts_view parts.now) }
-    ensures { IfOk result (λ p. statement_part_view p ≡ node ActionOf.IfStatement (parts_view parts.old)) }
+fn if_statement(alloc: Global, inner: If) -> Result<StatementPart, AllocError>
+    ensures { IfOk result (λ part. statement_part_view part ≡ PartData.statement (Statements.if_statement (if_view inner))) }
 {
-    let inner = parts.if_statement();
     Ok(StatementPart::Statement(Box::new(alloc, Statement::If(inner))?))
 }
 
-fn while_statement(alloc: Global, parts: &mut Parts) -> Result<StatementPart, AllocError>
-    requires { Fits (kinds ActionOf.While) (parts_view parts.now) }
-    ensures { IfOk result (λ p. statement_part_view p ≡ node ActionOf.While (parts_view parts.old)) }
+fn while_statement(
+    alloc: Global,
+    keyword: Leaf,
+    _: Leaf,
+    condition: Operand,
+    _: Leaf,
+    body: Block,
+) -> Result<StatementPart, AllocError>
+    ensures { IfOk result (λ part. statement_part_view part ≡ PartData.statement (Statements.while_statement (leaf_view keyword.entry).place (operand_view condition).expression (block_view body))) }
 {
-    let keyword = parts.leaf();
-    parts.leaf();
-    let condition = parts.operand();
-    parts.leaf();
-    let body = parts.block();
     Ok(StatementPart::Statement(Box::new(
         alloc,
         Statement::While {
@@ -192,15 +250,16 @@ fn while_statement(alloc: Global, parts: &mut Parts) -> Result<StatementPart, Al
     )?))
 }
 
-fn do_statement(alloc: Global, parts: &mut Parts) -> Result<StatementPart, AllocError>
-    requires { Fits (kinds ActionOf.Do) (parts_view parts.now) }
-    ensures { IfOk result (λ p. statement_part_view p ≡ node ActionOf.Do (parts_view parts.old)) }
+fn do_statement(
+    alloc: Global,
+    _: Leaf,
+    body: Block,
+    keyword: Leaf,
+    _: Leaf,
+    condition: Operand,
+) -> Result<StatementPart, AllocError>
+    ensures { IfOk result (λ part. statement_part_view part ≡ PartData.statement (Statements.do_statement (block_view body) (leaf_view keyword.entry).place (operand_view condition).expression)) }
 {
-    parts.leaf();
-    let body = parts.block();
-    let keyword = parts.leaf();
-    parts.leaf();
-    let condition = parts.operand();
     Ok(StatementPart::Statement(Box::new(
         alloc,
         Statement::DoWhile {
@@ -211,19 +270,20 @@ fn do_statement(alloc: Global, parts: &mut Parts) -> Result<StatementPart, Alloc
     )?))
 }
 
-fn for_statement(alloc: Global, parts: &mut Parts) -> Result<StatementPart, AllocError>
-    requires { Fits (kinds ActionOf.For) (parts_view parts.now) }
-    ensures { IfOk result (λ p. statement_part_view p ≡ node ActionOf.For (parts_view parts.old)) }
+fn for_statement(
+    alloc: Global,
+    keyword: Leaf,
+    _: Leaf,
+    start: Option<ForStart>,
+    _: Leaf,
+    condition: Option<Expression>,
+    _: Leaf,
+    step: Option<Simple>,
+    _: Leaf,
+    body: Block,
+) -> Result<StatementPart, AllocError>
+    ensures { IfOk result (λ part. statement_part_view part ≡ PartData.statement (Statements.for_statement (leaf_view keyword.entry).place (option_map for_start_view start) (option_map expression_view condition) (option_map simple_view step) (block_view body))) }
 {
-    let keyword = parts.leaf();
-    parts.leaf();
-    let start = parts.optional_for_start();
-    parts.leaf();
-    let condition = parts.optional_expression();
-    parts.leaf();
-    let step = parts.optional_simple();
-    parts.leaf();
-    let body = parts.block();
     Ok(StatementPart::Statement(Box::new(
         alloc,
         Statement::For {
@@ -236,17 +296,18 @@ fn for_statement(alloc: Global, parts: &mut Parts) -> Result<StatementPart, Allo
     )?))
 }
 
-fn switch_statement(alloc: Global, parts: &mut Parts) -> Result<StatementPart, AllocError>
-    requires { Fits (kinds ActionOf.Switch) (parts_view parts.now) }
-    ensures { IfOk result (λ p. statement_part_view p ≡ node ActionOf.Switch (parts_view parts.old)) }
+fn switch_statement(
+    alloc: Global,
+    keyword: Leaf,
+    _: Leaf,
+    subject: Operand,
+    _: Leaf,
+    _: Leaf,
+    clauses: Chain<Clause>,
+    default: Option<Body>,
+) -> Result<StatementPart, AllocError>
+    ensures { IfOk result (λ part. statement_part_view part ≡ PartData.statement (Statements.switch_statement (leaf_view keyword.entry).place (operand_view subject).expression (StatementViews.clauses_of (map clause_view clauses)) (StatementViews.maybe_body (option_map body_view default)))) }
 {
-    let keyword = parts.leaf();
-    parts.leaf();
-    let subject = parts.operand();
-    parts.leaf();
-    parts.leaf();
-    let clauses = parts.clauses();
-    let default = parts.optional_body();
     Ok(StatementPart::Statement(Box::new(
         alloc,
         Statement::Switch {
@@ -258,11 +319,9 @@ fn switch_statement(alloc: Global, parts: &mut Parts) -> Result<StatementPart, A
     )?))
 }
 
-fn continue_statement(alloc: Global, parts: &mut Parts) -> Result<StatementPart, AllocError>
-    requires { Fits (kinds ActionOf.Continue) (parts_view parts.now) }
-    ensures { IfOk result (λ p. statement_part_view p ≡ node ActionOf.Continue (parts_view parts.old)) }
+fn continue_statement(alloc: Global, keyword: Leaf) -> Result<StatementPart, AllocError>
+    ensures { IfOk result (λ part. statement_part_view part ≡ PartData.statement (Statements.continue_statement (leaf_view keyword.entry).place)) }
 {
-    let keyword = parts.leaf();
     Ok(StatementPart::Statement(Box::new(
         alloc,
         Statement::Continue {
@@ -271,19 +330,15 @@ fn continue_statement(alloc: Global, parts: &mut Parts) -> Result<StatementPart,
     )?))
 }
 
-fn simple_statement(alloc: Global, parts: &mut Parts) -> Result<StatementPart, AllocError>
-    requires { Fits (kinds ActionOf.SimpleStatement) (parts_view parts.now) }
-    ensures { IfOk result (λ p. statement_part_view p ≡ node ActionOf.SimpleStatement (parts_view parts.old)) }
+fn simple_statement(alloc: Global, simple: Simple) -> Result<StatementPart, AllocError>
+    ensures { IfOk result (λ part. statement_part_view part ≡ PartData.statement (Statements.simple_statement (simple_view simple))) }
 {
-    let simple = parts.simple();
     Ok(StatementPart::Statement(Box::new(alloc, Statement::Simple(simple))?))
 }
 
-fn empty(alloc: Global, parts: &mut Parts) -> Result<StatementPart, AllocError>
-    requires { Fits (kinds ActionOf.Empty) (parts_view parts.now) }
-    ensures { IfOk result (λ p. statement_part_view p ≡ node ActionOf.Empty (parts_view parts.old)) }
+fn empty(alloc: Global, semicolon: Leaf) -> Result<StatementPart, AllocError>
+    ensures { IfOk result (λ part. statement_part_view part ≡ PartData.statement (Statements.empty_statement (leaf_view semicolon.entry).place)) }
 {
-    let semicolon = parts.leaf();
     Ok(StatementPart::Statement(Box::new(
         alloc,
         Statement::Empty {
@@ -292,66 +347,40 @@ fn empty(alloc: Global, parts: &mut Parts) -> Result<StatementPart, AllocError>
     )?))
 }
 
-fn if_node(parts: &mut Parts) -> StatementPart
-    requires { Fits (kinds ActionOf.If) (parts_view parts.now) }
-    ensures { statement_part_view result ≡ node ActionOf.If (parts_view parts.old) }
+fn if_node(
+    keyword: Leaf,
+    _: Leaf,
+    condition: Operand,
+    _: Leaf,
+    then: Block,
+    otherwise: Option<Otherwise>,
+) -> If
+    ensures { if_view result ≡ Statements.if_then (leaf_view keyword.entry).place (operand_view condition).expression (block_view then) (StatementViews.maybe_otherwise (option_map otherwise_view otherwise)) }
 {
-    let keyword = parts.leaf();
-    parts.leaf();
-    let condition = parts.operand();
-    parts.leaf();
-    let then = parts.block();
-    let otherwise = parts.otherwise();
-    StatementPart::IfStatement(If {
+    If {
         place: keyword.place,
         condition: condition.expression,
         then,
         otherwise,
-    })
+    }
 }
 
-fn otherwise(parts: &mut Parts) -> StatementPart
-    requires { Fits (kinds ActionOf.Else) (parts_view parts.now) }
-    ensures { statement_part_view result ≡ node ActionOf.Else (parts_view parts.old) }
+fn otherwise_if(alloc: Global, inner: If) -> Result<StatementPart, AllocError>
+    ensures { IfOk result (λ part. statement_part_view part ≡ PartData.otherwise_branch (Statements.otherwise_if (if_view inner))) }
 {
-    parts.leaf();
-    let otherwise = parts.otherwise_branch();
-    StatementPart::Otherwise(Some(otherwise))
-}
-
-fn otherwise_block(parts: &mut Parts) -> StatementPart
-    requires { Fits (kinds ActionOf.OtherwiseBlock) (parts_view parts.now) }
-    ensures { statement_part_view result ≡ node ActionOf.OtherwiseBlock (parts_view parts.old) }
-{
-    let block = parts.block();
-    StatementPart::OtherwiseBranch(Otherwise::Block(block))
-}
-
-fn otherwise_if(alloc: Global, parts: &mut Parts) -> Result<StatementPart, AllocError>
-    requires { Fits (kinds ActionOf.OtherwiseIf) (parts_view parts.now) }
-    ensures { IfOk result (λ p. statement_part_view p ≡ node ActionOf.OtherwiseIf (parts_view parts.old)) }
-{
-    let inner = parts.if_statement();
     Ok(StatementPart::OtherwiseBranch(Otherwise::If(Box::new(alloc, inner)?)))
 }
 
-fn some_for_start(parts: &mut Parts) -> StatementPart
-    requires { Fits (kinds ActionOf.SomeForStart) (parts_view parts.now) }
-    ensures { statement_part_view result ≡ node ActionOf.SomeForStart (parts_view parts.old) }
+fn start_declaration(
+    alloc: Global,
+    specifiers: Chain<Specifier>,
+    pointers: Chain<Pointer>,
+    name: Leaf,
+    sign: Leaf,
+    value: Operand,
+) -> Result<StatementPart, AllocError>
+    ensures { IfOk result (λ part. statement_part_view part ≡ PartData.for_start (Statements.start_declaration (Views.specifiers_of (map specifier_view specifiers)) (pointers_view pointers) (leaf_view name.entry) (leaf_view sign.entry).place (operand_view value).expression)) }
 {
-    let start = parts.for_start();
-    StatementPart::OptionalForStart(Some(start))
-}
-
-fn start_declaration(alloc: Global, parts: &mut Parts) -> Result<StatementPart, AllocError>
-    requires { Fits (kinds ActionOf.StartDeclaration) (parts_view parts.now) }
-    ensures { IfOk result (λ p. statement_part_view p ≡ node ActionOf.StartDeclaration (parts_view parts.old)) }
-{
-    let specifiers = parts.specifiers();
-    let pointers = parts.pointers();
-    let name = parts.leaf();
-    let sign = parts.leaf();
-    let value = parts.operand();
     Ok(StatementPart::ForStart(ForStart::Declaration {
         specifiers: specifiers.into_vec(),
         pointers: pointers.into_vec(),
@@ -359,20 +388,4 @@ fn start_declaration(alloc: Global, parts: &mut Parts) -> Result<StatementPart, 
         place: sign.place,
         value: value.expression,
     }))
-}
-
-fn start_simple(parts: &mut Parts) -> StatementPart
-    requires { Fits (kinds ActionOf.StartSimple) (parts_view parts.now) }
-    ensures { statement_part_view result ≡ node ActionOf.StartSimple (parts_view parts.old) }
-{
-    let simple = parts.simple();
-    StatementPart::ForStart(ForStart::Simple(simple))
-}
-
-fn some_simple(parts: &mut Parts) -> StatementPart
-    requires { Fits (kinds ActionOf.SomeSimple) (parts_view parts.now) }
-    ensures { statement_part_view result ≡ node ActionOf.SomeSimple (parts_view parts.old) }
-{
-    let simple = parts.simple();
-    StatementPart::OptionalSimple(Some(simple))
 }

@@ -1,13 +1,16 @@
-ghost use Rattle.std.specs.Prelude.{◌≡◌, map, IfOk};
+ghost use Rattle.std.specs.Prelude.{◌≡◌, ◌∷◌, map, IfOk, Some};
 ghost use Rattle.std.specs.Option.{option_map};
-ghost use Rattle.c_program.specs.StatementViews.{simple_view, clause_view, case_label_view, body_view};
-ghost use Rattle.c_parts.specs.PartViews.{statement_part_view, parts_view, operand_view, simple_rest_view};
+ghost use Rattle.c_program.specs.Statements;
+ghost use Rattle.c_program.specs.Views.{expression_view};
+ghost use Rattle.c_program.specs.StatementViews;
+ghost use Rattle.c_program.specs.StatementViews.{simple_view, leave_view, case_label_view, statement_view, body_view, clause_view};
+ghost use Rattle.c_parts.specs.PartData;
+ghost use Rattle.c_parts.specs.PartViews.{leaf_view, operand_view, simple_rest_view, statement_part_view, parts_view};
 ghost use Rattle.c_parts.specs.Reading.{Fits};
-ghost use Rattle.c_nodes.specs.declared.switch_nodes.SwitchAction.TheVariants as ActionOf;
-ghost use Rattle.c_nodes.specs.SwitchNodes.{kinds, node, simple};
+ghost use Rattle.c_nodes.specs.SwitchNodes.{kinds, simple, node};
 
-use c_parts::{Chain, Operand, Parts, SimpleRest, StatementPart};
-use c_program::{Body, CaseLabel, Clause, Leave, Simple, Step};
+use c_parts::{AssignmentSign, Chain, Leaf, Operand, Parts, SimpleRest, StatementPart, StepSign};
+use c_program::{Body, CaseLabel, Clause, Expression, Leave, Simple, Statement, Step};
 use std::alloc::{AllocError, Global};
 
 /// What a production of clauses of a `switch`, jumps, assignments and steps makes of its parts.
@@ -59,55 +62,72 @@ pub(crate) fn switch_node(
     ensures { IfOk result (λ p. statement_part_view p ≡ node action (parts_view parts.old)) }
 {
     match action {
-        SwitchAction::Clauses => clauses(parts),
+        SwitchAction::Clauses => clauses(parts.clause(), parts.clauses()),
         SwitchAction::NoClauses => Ok(StatementPart::Clauses(Chain::new(alloc))),
-        SwitchAction::Default => Ok(default_body(parts)),
+        SwitchAction::Default => {
+            parts.leaf();
+            parts.leaf();
+            Ok(StatementPart::OptionalBody(Some(parts.body())))
+        },
         SwitchAction::NoDefault => Ok(StatementPart::OptionalBody(None)),
-        SwitchAction::Clause => one_clause(parts),
-        SwitchAction::CaseLabels => case_labels(parts),
+        SwitchAction::Clause => one_clause(
+            parts.leaf(),
+            parts.operand(),
+            parts.leaf(),
+            parts.case_labels(),
+            parts.body(),
+        ),
+        SwitchAction::CaseLabels => case_labels(
+            parts.leaf(),
+            parts.operand(),
+            parts.leaf(),
+            parts.case_labels(),
+        ),
         SwitchAction::NoCaseLabels => Ok(StatementPart::CaseLabels(Chain::new(alloc))),
-        SwitchAction::Body => Ok(body(parts)),
-        SwitchAction::Statements => statements(parts),
+        SwitchAction::Body => Ok(StatementPart::Body(body(parts.statements(), parts.leave()))),
+        SwitchAction::Statements => statements(parts.statement(), parts.statements()),
         SwitchAction::NoStatements => Ok(StatementPart::Statements(Chain::new(alloc))),
-        SwitchAction::Break => Ok(break_leave(parts)),
-        SwitchAction::Return => Ok(return_leave(parts)),
-        SwitchAction::PrefixStep => Ok(prefix_step(parts)),
-        SwitchAction::Simple => Ok(simple_expression(parts)),
-        SwitchAction::Assignment => Ok(assignment(parts)),
-        SwitchAction::PostfixStep(step) => Ok(postfix_step(parts, step)),
+        SwitchAction::Break => Ok(StatementPart::Leave(break_leave(parts.leaf()))),
+        SwitchAction::Return => Ok(StatementPart::Leave(return_leave(
+            parts.leaf(),
+            parts.optional_expression(),
+        ))),
+        SwitchAction::PrefixStep => Ok(StatementPart::Simple(prefix_step(
+            parts.step_sign(),
+            parts.operand(),
+        ))),
+        SwitchAction::Simple => Ok(StatementPart::Simple(simple(
+            parts.operand(),
+            parts.simple_rest(),
+        ))),
+        SwitchAction::Assignment => Ok(StatementPart::SimpleRest(assignment(
+            parts.assignment_sign(),
+            parts.operand(),
+        ))),
+        SwitchAction::PostfixStep(step) => Ok(StatementPart::SimpleRest(postfix_step(
+            parts.leaf(),
+            step,
+        ))),
         SwitchAction::NoSimpleRest => Ok(StatementPart::SimpleRest(None)),
     }
 }
 
-fn clauses(parts: &mut Parts) -> Result<StatementPart, AllocError>
-    requires { Fits (kinds ActionOf.Clauses) (parts_view parts.now) }
-    ensures { IfOk result (λ p. statement_part_view p ≡ node ActionOf.Clauses (parts_view parts.old)) }
+fn clauses(one: Clause, mut clauses: Chain<Clause>) -> Result<StatementPart, AllocError>
+    ensures { IfOk result (λ part. statement_part_view part ≡ PartData.clauses ((clause_view one) ∷ (map clause_view clauses))) }
 {
-    let one = parts.clause();
-    let mut clauses = parts.clauses();
     clauses.put_front(one)?;
     Ok(StatementPart::Clauses(clauses))
 }
 
-fn default_body(parts: &mut Parts) -> StatementPart
-    requires { Fits (kinds ActionOf.Default) (parts_view parts.now) }
-    ensures { statement_part_view result ≡ node ActionOf.Default (parts_view parts.old) }
+fn one_clause(
+    keyword: Leaf,
+    value: Operand,
+    _: Leaf,
+    mut labels: Chain<CaseLabel>,
+    body: Body,
+) -> Result<StatementPart, AllocError>
+    ensures { IfOk result (λ part. statement_part_view part ≡ PartData.clause (record { labels = record { place = (leaf_view keyword.entry).place; value = (operand_view value).expression } ∷ (map case_label_view labels); body = (body_view body) })) }
 {
-    parts.leaf();
-    parts.leaf();
-    let body = parts.body();
-    StatementPart::OptionalBody(Some(body))
-}
-
-fn one_clause(parts: &mut Parts) -> Result<StatementPart, AllocError>
-    requires { Fits (kinds ActionOf.Clause) (parts_view parts.now) }
-    ensures { IfOk result (λ p. statement_part_view p ≡ node ActionOf.Clause (parts_view parts.old)) }
-{
-    let keyword = parts.leaf();
-    let value = parts.operand();
-    parts.leaf();
-    let mut labels = parts.case_labels();
-    let body = parts.body();
     labels.put_front(CaseLabel {
         place: keyword.place,
         value: value.expression,
@@ -115,14 +135,14 @@ fn one_clause(parts: &mut Parts) -> Result<StatementPart, AllocError>
     Ok(StatementPart::Clause(clause(labels, body)))
 }
 
-fn case_labels(parts: &mut Parts) -> Result<StatementPart, AllocError>
-    requires { Fits (kinds ActionOf.CaseLabels) (parts_view parts.now) }
-    ensures { IfOk result (λ p. statement_part_view p ≡ node ActionOf.CaseLabels (parts_view parts.old)) }
+fn case_labels(
+    keyword: Leaf,
+    value: Operand,
+    _: Leaf,
+    mut labels: Chain<CaseLabel>,
+) -> Result<StatementPart, AllocError>
+    ensures { IfOk result (λ part. statement_part_view part ≡ PartData.case_labels ((record { place = (leaf_view keyword.entry).place; value = (operand_view value).expression }) ∷ (map case_label_view labels))) }
 {
-    let keyword = parts.leaf();
-    let value = parts.operand();
-    parts.leaf();
-    let mut labels = parts.case_labels();
     labels.put_front(CaseLabel {
         place: keyword.place,
         value: value.expression,
@@ -130,94 +150,66 @@ fn case_labels(parts: &mut Parts) -> Result<StatementPart, AllocError>
     Ok(StatementPart::CaseLabels(labels))
 }
 
-fn body(parts: &mut Parts) -> StatementPart
-    requires { Fits (kinds ActionOf.Body) (parts_view parts.now) }
-    ensures { statement_part_view result ≡ node ActionOf.Body (parts_view parts.old) }
+fn body(statements: Chain<Statement>, leave: Leave) -> Body
+    ensures { body_view result ≡ Statements.body (StatementViews.statements_of (map statement_view statements)) (leave_view leave) }
 {
-    let statements = parts.statements();
-    let leave = parts.leave();
-    StatementPart::Body(Body {
+    Body {
         statements: statements.into_vec(),
         leave,
-    })
+    }
 }
 
-fn statements(parts: &mut Parts) -> Result<StatementPart, AllocError>
-    requires { Fits (kinds ActionOf.Statements) (parts_view parts.now) }
-    ensures { IfOk result (λ p. statement_part_view p ≡ node ActionOf.Statements (parts_view parts.old)) }
+fn statements(one: Statement, mut statements: Chain<Statement>) -> Result<StatementPart, AllocError>
+    ensures { IfOk result (λ part. statement_part_view part ≡ PartData.statements ((statement_view one) ∷ (map statement_view statements))) }
 {
-    let one = parts.statement();
-    let mut statements = parts.statements();
     statements.put_front(one)?;
     Ok(StatementPart::Statements(statements))
 }
 
-fn break_leave(parts: &mut Parts) -> StatementPart
-    requires { Fits (kinds ActionOf.Break) (parts_view parts.now) }
-    ensures { statement_part_view result ≡ node ActionOf.Break (parts_view parts.old) }
+fn break_leave(keyword: Leaf) -> Leave
+    ensures { leave_view result ≡ Statements.breaks (leaf_view keyword.entry).place }
 {
-    let keyword = parts.leaf();
-    StatementPart::Leave(Leave::Break {
+    Leave::Break {
         place: keyword.place,
-    })
+    }
 }
 
-fn return_leave(parts: &mut Parts) -> StatementPart
-    requires { Fits (kinds ActionOf.Return) (parts_view parts.now) }
-    ensures { statement_part_view result ≡ node ActionOf.Return (parts_view parts.old) }
+fn return_leave(keyword: Leaf, value: Option<Expression>) -> Leave
+    ensures { leave_view result ≡ Statements.returns (leaf_view keyword.entry).place (option_map expression_view value) }
 {
-    let keyword = parts.leaf();
-    let value = parts.optional_expression();
-    StatementPart::Leave(Leave::Return {
+    Leave::Return {
         place: keyword.place,
         value,
-    })
+    }
 }
 
-fn prefix_step(parts: &mut Parts) -> StatementPart
-    requires { Fits (kinds ActionOf.PrefixStep) (parts_view parts.now) }
-    ensures { statement_part_view result ≡ node ActionOf.PrefixStep (parts_view parts.old) }
+fn prefix_step(sign: StepSign, right: Operand) -> Simple
+    ensures { simple_view result ≡ Statements.prefix_step sign.place sign.step (operand_view right).expression }
 {
-    let sign = parts.step_sign();
-    let right = parts.operand();
-    StatementPart::Simple(Simple::Prefix {
+    Simple::Prefix {
         place: sign.place,
         step: sign.step,
         operand: right.expression,
-    })
+    }
 }
 
-fn simple_expression(parts: &mut Parts) -> StatementPart
-    requires { Fits (kinds ActionOf.Simple) (parts_view parts.now) }
-    ensures { statement_part_view result ≡ node ActionOf.Simple (parts_view parts.old) }
+fn assignment(sign: AssignmentSign, value: Operand) -> Option<SimpleRest>
+    ensures { option_map simple_rest_view result ≡ Some (PartData.rest_assignment sign.place sign.operator (operand_view value).expression) }
 {
-    let left = parts.operand();
-    let behind = parts.simple_rest();
-    StatementPart::Simple(simple(left, behind))
-}
-
-fn assignment(parts: &mut Parts) -> StatementPart
-    requires { Fits (kinds ActionOf.Assignment) (parts_view parts.now) }
-    ensures { statement_part_view result ≡ node ActionOf.Assignment (parts_view parts.old) }
-{
-    let sign = parts.assignment_sign();
-    let value = parts.operand();
-    StatementPart::SimpleRest(Some(SimpleRest::Assignment {
+    Some(SimpleRest::Assignment {
         place: sign.place,
         operator: sign.operator,
         value: value.expression,
-    }))
+    })
 }
 
-fn postfix_step(parts: &mut Parts, step: Step) -> StatementPart
-    requires { Fits (kinds (ActionOf.PostfixStep step)) (parts_view parts.now) }
-    ensures { statement_part_view result ≡ node (ActionOf.PostfixStep step) (parts_view parts.old) }
+fn postfix_step(sign: Leaf, step: Step) -> Option<SimpleRest>
+    ensures { option_map simple_rest_view result ≡ Some (PartData.rest_step (leaf_view sign.entry).place step) }
 {
-    let sign = parts.leaf();
-    StatementPart::SimpleRest(Some(SimpleRest::Step {
+    Some(SimpleRest::Step {
         place: sign.place,
         step,
-    }))
+    })
 }
 
 /// A clause of these labels.

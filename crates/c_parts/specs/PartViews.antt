@@ -45,14 +45,14 @@ abbrev pub operand_view : Operand → PartData.OperandData
 operand_view o = record { expression = expression_view o.expression; bracketed = o.bracketed }
 
 abbrev pub branches_view : Branches → PartData.BranchesData
-branches_view b = record { question = b.question; then = expression_view b.then; otherwise = expression_view b.otherwise }
+branches_view b = record { question = b.question; then = expression_view b.then.value; otherwise = expression_view b.otherwise.value }
 
 abbrev pub sizeof_operand_view : SizeofOperand → PartData.SizeofOperandData
 sizeof_operand_view (SizeofOperandOf.Type t) = PartData.sizeof_of_type (type_name_view t)
 sizeof_operand_view (SizeofOperandOf.Expression e) = PartData.sizeof_of_expression (expression_view e)
 
 abbrev pub bracketed_view : Bracketed → PartData.BracketedData
-bracketed_view (BracketedOf.Cast t e) = PartData.bracketed_cast (type_name_view t) (expression_view e)
+bracketed_view (BracketedOf.Cast t e) = PartData.bracketed_cast (type_name_view t) (expression_view e.value)
 bracketed_view (BracketedOf.Operand o) = PartData.bracketed_operand (operand_view o)
 
 abbrev pub structure_view : Structure → PartData.StructureData
@@ -160,9 +160,9 @@ statement_part_view (StatementPartOf.Leave x) = PartData.leave (leave_view x)
 abbrev pub part_view : Part → PartData.PartData
 part_view (PartOf.Leaf l) = PartData.leaf (leaf_view l)
 part_view (PartOf.Expression x) = PartData.expression_part (expression_part_view x)
-part_view (PartOf.Declaration x) = PartData.declaration_part (declaration_part_view x)
-part_view (PartOf.External x) = PartData.external_part (external_part_view x)
-part_view (PartOf.Statement x) = PartData.statement_part (statement_part_view x)
+part_view (PartOf.Declaration x) = PartData.declaration_part (declaration_part_view x.value)
+part_view (PartOf.External x) = PartData.external_part (external_part_view x.value)
+part_view (PartOf.Statement x) = PartData.statement_part (statement_part_view x.value)
 
 abbrev pub parts_view : Parts → List PartData.PartData
 parts_view parts = map part_view parts.chain

@@ -31,8 +31,8 @@ pub struct PrefixOperator {
 pub struct Branches {
     /// The place of the `?`.
     pub question: Place,
-    pub then: Expression,
-    pub otherwise: Expression,
+    pub then: Box<Expression>,
+    pub otherwise: Box<Expression>,
 }
 
 /// What `sizeof` is of (C11 6.5.3.4).
@@ -48,7 +48,7 @@ pub enum Bracketed {
     /// A type name, and the operand behind it (C11 6.5.4).
     Cast {
         type_name: TypeName,
-        operand: Expression,
+        operand: Box<Expression>,
     },
     /// An expression in brackets, with what stands behind it.
     Operand(Operand),

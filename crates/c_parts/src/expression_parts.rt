@@ -58,8 +58,8 @@ impl<'a> Parts<'a> {
         ensures result { result ≡ infix_operator_of (first (parts_view self.old)) }
         ensures rest { parts_view self.new ≡ rest (parts_view self.old) }
     {
-        match &self.expression_part() {
-            ExpressionPart::InfixOperator(operator) => *operator,
+        match self.expression_part() {
+            ExpressionPart::InfixOperator(operator) => operator,
             _ => unreachable!(),
         }
     }
@@ -82,8 +82,8 @@ impl<'a> Parts<'a> {
         ensures result { result ≡ prefix_operator_of (first (parts_view self.old)) }
         ensures rest { parts_view self.new ≡ rest (parts_view self.old) }
     {
-        match &self.expression_part() {
-            ExpressionPart::PrefixOperator(operator) => *operator,
+        match self.expression_part() {
+            ExpressionPart::PrefixOperator(operator) => operator,
             _ => unreachable!(),
         }
     }
@@ -178,8 +178,8 @@ impl<'a> Parts<'a> {
         ensures result { result ≡ assignment_sign_of (first (parts_view self.old)) }
         ensures rest { parts_view self.new ≡ rest (parts_view self.old) }
     {
-        match &self.expression_part() {
-            ExpressionPart::AssignmentSign(sign) => *sign,
+        match self.expression_part() {
+            ExpressionPart::AssignmentSign(sign) => sign,
             _ => unreachable!(),
         }
     }
@@ -190,8 +190,8 @@ impl<'a> Parts<'a> {
         ensures result { result ≡ step_sign_of (first (parts_view self.old)) }
         ensures rest { parts_view self.new ≡ rest (parts_view self.old) }
     {
-        match &self.expression_part() {
-            ExpressionPart::StepSign(sign) => *sign,
+        match self.expression_part() {
+            ExpressionPart::StepSign(sign) => sign,
             _ => unreachable!(),
         }
     }
