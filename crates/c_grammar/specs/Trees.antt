@@ -14,7 +14,7 @@ use Rattle.c_nodes.specs.Nodes.{node, kind, kinds}
 use Rattle.ll_core.specs.declared.reductions.Event.{Event}
 use Rattle.ll_core.specs.declared.reductions.Event.TheVariants.{Shift, Reduce}
 use Rattle.ll_core.specs.Answers.{IsOnlyDerivation}
-use Rattle.ll_core.specs.Folds.{fold_forest}
+use Rattle.ll_core.specs.Folds.{fold_forest, run_steps}
 use Rattle.ll_core.specs.Sentences.{IsParsed, AllWithin}
 use Rattle.ll_core.specs.Trees.{Forest, nestings}
 use Rattle.c_grammar.specs.declared.actions.TheConstants.{ACTIONS}
@@ -70,3 +70,9 @@ IsRun (Shift ∷ events) zero stack = ⊥
 IsRun (Shift ∷ events) (suc left) stack = IsRun events left (Kinds.leaf ∷ stack)
 IsRun (Reduce number ∷ events) left stack =
     (below : List Kinds.Kind) × (action : Action) × Takes number stack below action × IsRun events left (kind action ∷ below)
+
+-- running the steps leaves one part, which is these external declarations
+pub record IsMade (text : List ℕ) (tokens : List Token) (events : List Event) (tree : List ExternalData) : Type 0 where
+  pub part : PartData.PartData
+  pub made : part ∷ [] ≡ run_steps node_of PRODUCTIONS events [] (leaves_of text tokens)
+  pub is : tree ≡ externals_of part

@@ -1,13 +1,13 @@
-ghost use Rattle.std.specs.Prelude.{◌≡◌, ◌≤◌, ◌<◌, ◌∷◌, [], All, length, take, drop, reverse, Some, slice_get, IfOk, IfErr, OnOk};
+ghost use Rattle.std.specs.Prelude.{◌≡◌, ◌≤◌, ◌<◌, ◌∷◌, [], map, All, length, take, drop, reverse, Some, slice_get, IfOk, IfErr, OnOk};
 ghost use Rattle.ll_core.specs.Folds.{run_steps, size_in};
 ghost use Rattle.c_lexer.specs.Slices.{IsWithin};
-ghost use Rattle.c_program.specs.StatementViews.{tree_view};
+ghost use Rattle.c_program.specs.StatementViews.{external_view, tree_view};
 ghost use Rattle.c_parts.specs.Kinds;
 ghost use Rattle.c_parts.specs.PartViews.{part_view, leaf_view};
 ghost use Rattle.c_parts.specs.Reading.{kind_of};
 ghost use Rattle.c_grammar.specs.declared.tables.TheConstants.{PRODUCTIONS};
 ghost use Rattle.c_grammar.specs.Syntax.{StopsBySyntax};
-ghost use Rattle.c_grammar.specs.Trees.{IsTree, IsReady, IsRun, node_of, leaf_of_token, leaves_of, stack_view};
+ghost use Rattle.c_grammar.specs.Trees.{IsTree, IsMade, IsReady, IsRun, node_of, leaf_of_token, leaves_of, stack_view};
 
 use crate::actions::ACTIONS;
 use crate::grammar::{c_grammar, productions};
@@ -15,7 +15,7 @@ use crate::syntax::derivation;
 use c_lexer::Token;
 use c_nodes::{Action, part};
 use c_parts::{Leaf, Part, Parts};
-use c_program::Tree;
+use c_program::{External, Tree};
 use ll_core::{Event, postorder};
 use misra_base::CheckStop;
 use std::alloc::{AllocError, Global};
@@ -36,11 +36,25 @@ pub fn tree(alloc: Global, text: &[u8], tokens: &[Token]) -> Result<Tree, CheckS
     };
     let derivation = derivation(alloc, &grammar, text, tokens)?;
     let events = postorder(alloc, &grammar, &derivation)?;
-    let mut parts = Parts::new(alloc);
-    parts.put_front(built(alloc, text, tokens, &events)?)?;
     Ok(Tree {
-        externals: parts.externals().into_vec(),
+        externals: externals(alloc, text, tokens, &events)?,
     })
+}
+
+/// The external declarations that the steps make.
+fn externals(
+    alloc: Global,
+    text: &[u8],
+    tokens: &[Token],
+    events: &[Event],
+) -> Result<Vec<External>, AllocError>
+    requires within { All (IsWithin (length text.now)) tokens.now }
+    requires steps { IsRun events.now (length tokens.now) [] }
+    ensures { IfOk result (λ v. IsMade text.now tokens.now events.now (map external_view v.items)) }
+{
+    let mut parts = Parts::new(alloc);
+    parts.put_front(built(alloc, text, tokens, events)?)?;
+    Ok(parts.externals().into_vec())
 }
 
 /// What the steps leave on the stack.

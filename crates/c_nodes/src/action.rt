@@ -37,25 +37,10 @@ pub fn part<'a>(
     match action {
         Action::Tag => Ok(Part::Leaf(parts.leaf())),
         Action::Expression(action) => Ok(Part::Expression(expression_node(alloc, action, parts)?)),
-        Action::Specifier(action) => Ok(Part::Declaration(Box::new(
-            alloc,
-            specifier_node(alloc, action, parts)?,
-        )?)),
-        Action::Declarator(action) => Ok(Part::Declaration(Box::new(
-            alloc,
-            declarator_node(alloc, action, parts)?,
-        )?)),
-        Action::External(action) => Ok(Part::External(Box::new(
-            alloc,
-            external_node(alloc, action, parts)?,
-        )?)),
-        Action::Statement(action) => Ok(Part::Statement(Box::new(
-            alloc,
-            statement_node(alloc, action, parts)?,
-        )?)),
-        Action::Switch(action) => Ok(Part::Statement(Box::new(
-            alloc,
-            switch_node(alloc, action, parts)?,
-        )?)),
+        Action::Specifier(action) => Ok(Part::Declaration(specifier_node(alloc, action, parts)?)),
+        Action::Declarator(action) => Ok(Part::Declaration(declarator_node(alloc, action, parts)?)),
+        Action::External(action) => Ok(Part::External(external_node(alloc, action, parts)?)),
+        Action::Statement(action) => Ok(Part::Statement(statement_node(alloc, action, parts)?)),
+        Action::Switch(action) => Ok(Part::Statement(switch_node(alloc, action, parts)?)),
     }
 }

@@ -160,9 +160,9 @@ statement_part_view (StatementPartOf.Leave x) = PartData.leave (leave_view x)
 abbrev pub part_view : Part → PartData.PartData
 part_view (PartOf.Leaf l) = PartData.leaf (leaf_view l)
 part_view (PartOf.Expression x) = PartData.expression_part (expression_part_view x)
-part_view (PartOf.Declaration x) = PartData.declaration_part (declaration_part_view x.value)
-part_view (PartOf.External x) = PartData.external_part (external_part_view x.value)
-part_view (PartOf.Statement x) = PartData.statement_part (statement_part_view x.value)
+part_view (PartOf.Declaration x) = PartData.declaration_part (declaration_part_view x)
+part_view (PartOf.External x) = PartData.external_part (external_part_view x)
+part_view (PartOf.Statement x) = PartData.statement_part (statement_part_view x)
 
 abbrev pub parts_view : Parts → List PartData.PartData
 parts_view parts = map part_view parts.chain

@@ -24,7 +24,7 @@ impl<'a> Parts<'a> {
         ensures rest { parts_view self.new ≡ rest (parts_view self.old) }
     {
         match self.next() {
-            Part::Declaration(part) => Box::into_inner(part),
+            Part::Declaration(part) => part,
             _ => unreachable!(),
         }
     }

@@ -21,7 +21,7 @@ impl<'a> Parts<'a> {
         ensures rest { parts_view self.new ≡ rest (parts_view self.old) }
     {
         match self.next() {
-            Part::External(part) => Box::into_inner(part),
+            Part::External(part) => part,
             _ => unreachable!(),
         }
     }

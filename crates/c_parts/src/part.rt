@@ -4,13 +4,12 @@ use crate::external_part::ExternalPart;
 use crate::leaf::Leaf;
 use crate::statement_part::StatementPart;
 
-/// What a symbol of the grammar stands for in a text: a token, or what the tree has for it. Parts are moved often,
-/// so that the large ones are in boxes.
+/// What a symbol of the grammar stands for in a text: a token, or what the tree has for it.
 #[derive(Drop)]
 pub enum Part<'a> {
     Leaf(Leaf<'a>),
     Expression(ExpressionPart),
-    Declaration(Box<DeclarationPart>),
-    External(Box<ExternalPart>),
-    Statement(Box<StatementPart>),
+    Declaration(DeclarationPart),
+    External(ExternalPart),
+    Statement(StatementPart),
 }

@@ -22,7 +22,7 @@ impl<'a> Parts<'a> {
         ensures rest { parts_view self.new ≡ rest (parts_view self.old) }
     {
         match self.next() {
-            Part::Statement(part) => Box::into_inner(part),
+            Part::Statement(part) => part,
             _ => unreachable!(),
         }
     }
