@@ -1,8 +1,8 @@
 //! What each production of the grammar makes of its parts, as tools/c_grammar.py writes it from tools/c_actions.txt.
 
 use c_nodes::{
-    Action, DeclaratorAction, ExpressionAction, ExternalAction, SpecifierAction, StatementAction,
-    SwitchAction,
+    Action, DeclaratorAction, ExpressionAction, ExternalAction, OperandAction, SpecifierAction,
+    StatementAction, SwitchAction,
 };
 use c_program::{AssignmentOperator, BinaryOperator, Keyword, Qualifier, Step, UnaryOperator};
 
@@ -168,52 +168,52 @@ pub static ACTIONS: [Action; 234] = [
     Action::Expression(ExpressionAction::AssignmentSign(AssignmentOperator::And)), // 156 assign = "&="
     Action::Expression(ExpressionAction::AssignmentSign(AssignmentOperator::Xor)), // 157 assign = "^="
     Action::Expression(ExpressionAction::AssignmentSign(AssignmentOperator::Or)), // 158 assign = "|="
-    Action::Expression(ExpressionAction::Conditional), // 159 cond = lor cond_1
+    Action::Operand(OperandAction::Conditional), // 159 cond = lor cond_1
     Action::Expression(ExpressionAction::Branches), // 160 cond_1 = "?" cond ":" cond
-    Action::Expression(ExpressionAction::NoBranches), // 161 cond_1 =
-    Action::Expression(ExpressionAction::Binary), // 162 lor = land lor_1
+    Action::Operand(OperandAction::NoBranches), // 161 cond_1 =
+    Action::Operand(OperandAction::Binary), // 162 lor = land lor_1
     Action::Expression(ExpressionAction::Operation(BinaryOperator::LogicalOr)), // 163 lor_1 = "||" land lor_1
-    Action::Expression(ExpressionAction::NoOperations), // 164 lor_1 =
-    Action::Expression(ExpressionAction::Binary), // 165 land = bor land_1
+    Action::Operand(OperandAction::NoOperations), // 164 lor_1 =
+    Action::Operand(OperandAction::Binary), // 165 land = bor land_1
     Action::Expression(ExpressionAction::Operation(BinaryOperator::LogicalAnd)), // 166 land_1 = "&&" bor land_1
-    Action::Expression(ExpressionAction::NoOperations), // 167 land_1 =
-    Action::Expression(ExpressionAction::Binary), // 168 bor = bxor bor_1
+    Action::Operand(OperandAction::NoOperations), // 167 land_1 =
+    Action::Operand(OperandAction::Binary), // 168 bor = bxor bor_1
     Action::Expression(ExpressionAction::Operation(BinaryOperator::Or)), // 169 bor_1 = "|" bxor bor_1
-    Action::Expression(ExpressionAction::NoOperations), // 170 bor_1 =
-    Action::Expression(ExpressionAction::Binary), // 171 bxor = band bxor_1
+    Action::Operand(OperandAction::NoOperations), // 170 bor_1 =
+    Action::Operand(OperandAction::Binary), // 171 bxor = band bxor_1
     Action::Expression(ExpressionAction::Operation(BinaryOperator::Xor)), // 172 bxor_1 = "^" band bxor_1
-    Action::Expression(ExpressionAction::NoOperations), // 173 bxor_1 =
-    Action::Expression(ExpressionAction::Binary), // 174 band = eq band_1
+    Action::Operand(OperandAction::NoOperations), // 173 bxor_1 =
+    Action::Operand(OperandAction::Binary), // 174 band = eq band_1
     Action::Expression(ExpressionAction::Operation(BinaryOperator::And)), // 175 band_1 = "&" eq band_1
-    Action::Expression(ExpressionAction::NoOperations), // 176 band_1 =
-    Action::Expression(ExpressionAction::Binary), // 177 eq = rel eq_1
+    Action::Operand(OperandAction::NoOperations), // 176 band_1 =
+    Action::Operand(OperandAction::Binary), // 177 eq = rel eq_1
     Action::Expression(ExpressionAction::SignedOperation), // 178 eq_1 = eq_2 rel eq_1
     Action::Expression(ExpressionAction::Infix(BinaryOperator::Equal)), // 179 eq_2 = "=="
     Action::Expression(ExpressionAction::Infix(BinaryOperator::NotEqual)), // 180 eq_2 = "!="
-    Action::Expression(ExpressionAction::NoOperations), // 181 eq_1 =
-    Action::Expression(ExpressionAction::Binary), // 182 rel = shift rel_1
+    Action::Operand(OperandAction::NoOperations), // 181 eq_1 =
+    Action::Operand(OperandAction::Binary), // 182 rel = shift rel_1
     Action::Expression(ExpressionAction::SignedOperation), // 183 rel_1 = rel_2 shift rel_1
     Action::Expression(ExpressionAction::Infix(BinaryOperator::Less)), // 184 rel_2 = "<"
     Action::Expression(ExpressionAction::Infix(BinaryOperator::Greater)), // 185 rel_2 = ">"
     Action::Expression(ExpressionAction::Infix(BinaryOperator::LessEqual)), // 186 rel_2 = "<="
     Action::Expression(ExpressionAction::Infix(BinaryOperator::GreaterEqual)), // 187 rel_2 = ">="
-    Action::Expression(ExpressionAction::NoOperations), // 188 rel_1 =
-    Action::Expression(ExpressionAction::Binary), // 189 shift = add shift_1
+    Action::Operand(OperandAction::NoOperations), // 188 rel_1 =
+    Action::Operand(OperandAction::Binary), // 189 shift = add shift_1
     Action::Expression(ExpressionAction::SignedOperation), // 190 shift_1 = shift_2 add shift_1
     Action::Expression(ExpressionAction::Infix(BinaryOperator::ShiftLeft)), // 191 shift_2 = "<<"
     Action::Expression(ExpressionAction::Infix(BinaryOperator::ShiftRight)), // 192 shift_2 = ">>"
-    Action::Expression(ExpressionAction::NoOperations), // 193 shift_1 =
-    Action::Expression(ExpressionAction::Binary), // 194 add = mul add_1
+    Action::Operand(OperandAction::NoOperations), // 193 shift_1 =
+    Action::Operand(OperandAction::Binary), // 194 add = mul add_1
     Action::Expression(ExpressionAction::SignedOperation), // 195 add_1 = add_2 mul add_1
     Action::Expression(ExpressionAction::Infix(BinaryOperator::Add)), // 196 add_2 = "+"
     Action::Expression(ExpressionAction::Infix(BinaryOperator::Subtract)), // 197 add_2 = "-"
-    Action::Expression(ExpressionAction::NoOperations), // 198 add_1 =
-    Action::Expression(ExpressionAction::Binary), // 199 mul = unary mul_1
+    Action::Operand(OperandAction::NoOperations), // 198 add_1 =
+    Action::Operand(OperandAction::Binary), // 199 mul = unary mul_1
     Action::Expression(ExpressionAction::SignedOperation), // 200 mul_1 = mul_2 unary mul_1
     Action::Expression(ExpressionAction::Infix(BinaryOperator::Multiply)), // 201 mul_2 = "*"
     Action::Expression(ExpressionAction::Infix(BinaryOperator::Divide)), // 202 mul_2 = "/"
     Action::Expression(ExpressionAction::Infix(BinaryOperator::Remainder)), // 203 mul_2 = "%"
-    Action::Expression(ExpressionAction::NoOperations), // 204 mul_1 =
+    Action::Operand(OperandAction::NoOperations), // 204 mul_1 =
     Action::Expression(ExpressionAction::Unary), // 205 unary = unary_1 unary
     Action::Expression(ExpressionAction::Prefix(UnaryOperator::Address)), // 206 unary_1 = "&"
     Action::Expression(ExpressionAction::Prefix(UnaryOperator::Indirection)), // 207 unary_1 = "*"
@@ -228,12 +228,12 @@ pub static ACTIONS: [Action; 234] = [
     Action::Expression(ExpressionAction::Cast), // 216 unary_3 = type ")" unary
     Action::Expression(ExpressionAction::Group), // 217 unary_3 = cond ")" unary_4
     Action::Expression(ExpressionAction::Postfixes), // 218 unary_4 = post unary_4
-    Action::Expression(ExpressionAction::NoPostfixes), // 219 unary_4 =
-    Action::Expression(ExpressionAction::Postfixed), // 220 unary = unary_5 unary_6
-    Action::Expression(ExpressionAction::Identifier), // 221 unary_5 = id
-    Action::Expression(ExpressionAction::Constant), // 222 unary_5 = num
+    Action::Operand(OperandAction::NoPostfixes), // 219 unary_4 =
+    Action::Operand(OperandAction::Postfixed), // 220 unary = unary_5 unary_6
+    Action::Operand(OperandAction::Identifier), // 221 unary_5 = id
+    Action::Operand(OperandAction::Constant), // 222 unary_5 = num
     Action::Expression(ExpressionAction::Postfixes), // 223 unary_6 = post unary_6
-    Action::Expression(ExpressionAction::NoPostfixes), // 224 unary_6 =
+    Action::Operand(OperandAction::NoPostfixes), // 224 unary_6 =
     Action::Expression(ExpressionAction::TypeName), // 225 type = spec pointer
     Action::Expression(ExpressionAction::Index), // 226 post = "[" cond "]"
     Action::Expression(ExpressionAction::Call), // 227 post = "(" post_1 ")"

@@ -7,6 +7,8 @@ use Rattle.c_nodes.specs.declared.action.Action.TheVariants as ActionOf
 use Rattle.c_nodes.specs.Nodes.{node, kind}
 use Rattle.c_nodes.specs.declared.expression_nodes.ExpressionAction.{ExpressionAction}
 use Rattle.c_nodes.specs.declared.expression_nodes.ExpressionAction.TheVariants as ExpressionOf
+use Rattle.c_nodes.specs.declared.operand_nodes.OperandAction.{OperandAction}
+use Rattle.c_nodes.specs.declared.operand_nodes.OperandAction.TheVariants as OperandOf
 use Rattle.c_nodes.specs.declared.specifier_nodes.SpecifierAction.{SpecifierAction}
 use Rattle.c_nodes.specs.declared.specifier_nodes.SpecifierAction.TheVariants as SpecifierOf
 use Rattle.c_nodes.specs.declared.declarator_nodes.DeclaratorAction.{DeclaratorAction}
@@ -18,18 +20,22 @@ use Rattle.c_nodes.specs.declared.statement_nodes.StatementAction.TheVariants as
 use Rattle.c_nodes.specs.declared.switch_nodes.SwitchAction.{SwitchAction}
 use Rattle.c_nodes.specs.declared.switch_nodes.SwitchAction.TheVariants as SwitchOf
 
+operand_kind : (action : OperandAction) (parts : List PartData.PartData) → kind_of (node (ActionOf.Operand action) parts) ≡ kind (ActionOf.Operand action)
+operand_kind OperandOf.Identifier parts = refl
+operand_kind OperandOf.Constant parts = refl
+operand_kind OperandOf.NoOperations parts = refl
+operand_kind OperandOf.Binary parts = refl
+operand_kind OperandOf.Conditional parts = refl
+operand_kind OperandOf.NoBranches parts = refl
+operand_kind OperandOf.NoPostfixes parts = refl
+operand_kind OperandOf.Postfixed parts = refl
+
 expression_kind : (action : ExpressionAction) (parts : List PartData.PartData) → kind_of (node (ActionOf.Expression action) parts) ≡ kind (ActionOf.Expression action)
 expression_kind (ExpressionOf.Infix operator) parts = refl
 expression_kind (ExpressionOf.Prefix operator) parts = refl
-expression_kind ExpressionOf.Identifier parts = refl
-expression_kind ExpressionOf.Constant parts = refl
 expression_kind (ExpressionOf.Operation operator) parts = refl
 expression_kind ExpressionOf.SignedOperation parts = refl
-expression_kind ExpressionOf.NoOperations parts = refl
-expression_kind ExpressionOf.Binary parts = refl
-expression_kind ExpressionOf.Conditional parts = refl
 expression_kind ExpressionOf.Branches parts = refl
-expression_kind ExpressionOf.NoBranches parts = refl
 expression_kind ExpressionOf.Unary parts = refl
 expression_kind ExpressionOf.Sizeof parts = refl
 expression_kind ExpressionOf.SizeofType parts = refl
@@ -38,8 +44,6 @@ expression_kind ExpressionOf.Bracket parts = refl
 expression_kind ExpressionOf.Cast parts = refl
 expression_kind ExpressionOf.Group parts = refl
 expression_kind ExpressionOf.Postfixes parts = refl
-expression_kind ExpressionOf.NoPostfixes parts = refl
-expression_kind ExpressionOf.Postfixed parts = refl
 expression_kind ExpressionOf.TypeName parts = refl
 expression_kind ExpressionOf.Index parts = refl
 expression_kind ExpressionOf.Call parts = refl
@@ -176,6 +180,7 @@ switch_kind SwitchOf.NoSimpleRest parts = refl
 
 pub node_kind : (action : Action) (parts : List PartData.PartData) → kind_of (node action parts) ≡ kind action
 node_kind ActionOf.Tag parts = refl
+node_kind (ActionOf.Operand action) parts = operand_kind action parts
 node_kind (ActionOf.Expression action) parts = expression_kind action parts
 node_kind (ActionOf.Specifier action) parts = specifier_kind action parts
 node_kind (ActionOf.Declarator action) parts = declarator_kind action parts

@@ -6,6 +6,7 @@ use Rattle.c_program.specs.Views
 use Rattle.c_parts.specs.Kinds
 use Rattle.c_parts.specs.PartData
 use Rattle.c_parts.specs.Reading.{part, arguments_of, bracketed_of, branches_of, infix_operator_of, leaf_of, operand_of, operations_of, pointers_of, postfix_of, postfixes_of, prefix_operator_of, sizeof_operand_of, specifiers_of, type_name_of}
+use Rattle.c_nodes.specs.OperandNodes.{plain, postfixed}
 use Rattle.c_nodes.specs.declared.expression_nodes.ExpressionAction.{ExpressionAction}
 use Rattle.c_nodes.specs.declared.expression_nodes.ExpressionAction.TheVariants as ActionOf
 
@@ -13,15 +14,9 @@ use Rattle.c_nodes.specs.declared.expression_nodes.ExpressionAction.TheVariants 
 abbrev pub kinds : ExpressionAction → List Kinds.Kind
 kinds (ActionOf.Infix operator) = Kinds.leaf ∷ []
 kinds (ActionOf.Prefix operator) = Kinds.leaf ∷ []
-kinds ActionOf.Identifier = Kinds.leaf ∷ []
-kinds ActionOf.Constant = Kinds.leaf ∷ []
 kinds (ActionOf.Operation operator) = Kinds.leaf ∷ Kinds.operand ∷ Kinds.operations ∷ []
 kinds ActionOf.SignedOperation = Kinds.infix_operator ∷ Kinds.operand ∷ Kinds.operations ∷ []
-kinds ActionOf.NoOperations = []
-kinds ActionOf.Binary = Kinds.operand ∷ Kinds.operations ∷ []
-kinds ActionOf.Conditional = Kinds.operand ∷ Kinds.branches ∷ []
 kinds ActionOf.Branches = Kinds.leaf ∷ Kinds.operand ∷ Kinds.leaf ∷ Kinds.operand ∷ []
-kinds ActionOf.NoBranches = []
 kinds ActionOf.Unary = Kinds.prefix_operator ∷ Kinds.operand ∷ []
 kinds ActionOf.Sizeof = Kinds.leaf ∷ Kinds.leaf ∷ Kinds.sizeof_operand ∷ []
 kinds ActionOf.SizeofType = Kinds.type_name ∷ Kinds.leaf ∷ []
@@ -30,8 +25,6 @@ kinds ActionOf.Bracket = Kinds.leaf ∷ Kinds.bracketed ∷ []
 kinds ActionOf.Cast = Kinds.type_name ∷ Kinds.leaf ∷ Kinds.operand ∷ []
 kinds ActionOf.Group = Kinds.operand ∷ Kinds.leaf ∷ Kinds.postfixes ∷ []
 kinds ActionOf.Postfixes = Kinds.postfix ∷ Kinds.postfixes ∷ []
-kinds ActionOf.NoPostfixes = []
-kinds ActionOf.Postfixed = Kinds.operand ∷ Kinds.postfixes ∷ []
 kinds ActionOf.TypeName = Kinds.specifiers ∷ Kinds.pointers ∷ []
 kinds ActionOf.Index = Kinds.leaf ∷ Kinds.operand ∷ Kinds.leaf ∷ []
 kinds ActionOf.Call = Kinds.leaf ∷ Kinds.arguments ∷ Kinds.leaf ∷ []
@@ -50,15 +43,9 @@ kinds (ActionOf.StepSign step) = Kinds.leaf ∷ []
 abbrev pub kind : ExpressionAction → Kinds.Kind
 kind (ActionOf.Infix operator) = Kinds.infix_operator
 kind (ActionOf.Prefix operator) = Kinds.prefix_operator
-kind ActionOf.Identifier = Kinds.operand
-kind ActionOf.Constant = Kinds.operand
 kind (ActionOf.Operation operator) = Kinds.operations
 kind ActionOf.SignedOperation = Kinds.operations
-kind ActionOf.NoOperations = Kinds.operations
-kind ActionOf.Binary = Kinds.operand
-kind ActionOf.Conditional = Kinds.operand
 kind ActionOf.Branches = Kinds.branches
-kind ActionOf.NoBranches = Kinds.branches
 kind ActionOf.Unary = Kinds.operand
 kind ActionOf.Sizeof = Kinds.operand
 kind ActionOf.SizeofType = Kinds.sizeof_operand
@@ -67,8 +54,6 @@ kind ActionOf.Bracket = Kinds.operand
 kind ActionOf.Cast = Kinds.bracketed
 kind ActionOf.Group = Kinds.bracketed
 kind ActionOf.Postfixes = Kinds.postfixes
-kind ActionOf.NoPostfixes = Kinds.postfixes
-kind ActionOf.Postfixed = Kinds.operand
 kind ActionOf.TypeName = Kinds.type_name
 kind ActionOf.Index = Kinds.postfix
 kind ActionOf.Call = Kinds.postfix
@@ -83,20 +68,8 @@ kind ActionOf.NoExpression = Kinds.optional_expression
 kind (ActionOf.AssignmentSign operator) = Kinds.assignment_sign
 kind (ActionOf.StepSign step) = Kinds.step_sign
 
--- an expression that is not in brackets, and one that is
-abbrev pub plain : Expressions.ExpressionData → PartData.OperandData
-plain e = record { expression = e; bracketed = false }
-
 abbrev pub bracketed : PartData.OperandData → PartData.OperandData
 bracketed o = record { expression = o.expression; bracketed = true }
-
-abbrev pub binary : PartData.OperandData → List Views.OneOperation → PartData.OperandData
-binary first [] = first
-binary first (o ∷ os) = plain (Expressions.binary first.expression (Views.operations_of (o ∷ os)))
-
-abbrev pub conditional : PartData.OperandData → Option PartData.BranchesData → PartData.OperandData
-conditional condition None = condition
-conditional condition (Some b) = plain (Expressions.conditional condition.expression b.question b.then b.otherwise)
 
 abbrev pub sizeof : Place → PartData.SizeofOperandData → Expressions.ExpressionData
 sizeof place (PartData.sizeof_of_type t) = Expressions.sizeof_type place t
@@ -106,22 +79,12 @@ abbrev pub behind_bracket : Place → PartData.BracketedData → PartData.Operan
 behind_bracket place (PartData.bracketed_cast t e) = plain (Expressions.cast place t e)
 behind_bracket place (PartData.bracketed_operand o) = o
 
-abbrev pub postfixed : PartData.OperandData → List Expressions.PostfixData → PartData.OperandData
-postfixed inner [] = inner
-postfixed inner (p ∷ ps) = plain (Expressions.postfix inner.expression (Views.postfixes_of (p ∷ ps)))
-
 abbrev pub node : ExpressionAction → List PartData.PartData → PartData.ExpressionPart
 node (ActionOf.Infix operator) ps = PartData.infix_operator (record { place = (leaf_of (part 0 ps)).place; operator = operator })
 node (ActionOf.Prefix operator) ps = PartData.prefix_operator (record { place = (leaf_of (part 0 ps)).place; operator = operator })
-node ActionOf.Identifier ps = PartData.operand (plain (Expressions.identifier (leaf_of (part 0 ps))))
-node ActionOf.Constant ps = PartData.operand (plain (Expressions.constant (leaf_of (part 0 ps))))
 node (ActionOf.Operation operator) ps = PartData.operations ((record { place = (leaf_of (part 0 ps)).place; operator = operator; operand = (operand_of (part 1 ps)).expression }) ∷ (operations_of (part 2 ps)))
 node ActionOf.SignedOperation ps = PartData.operations ((record { place = (infix_operator_of (part 0 ps)).place; operator = (infix_operator_of (part 0 ps)).operator; operand = (operand_of (part 1 ps)).expression }) ∷ (operations_of (part 2 ps)))
-node ActionOf.NoOperations ps = PartData.operations []
-node ActionOf.Binary ps = PartData.operand (binary (operand_of (part 0 ps)) (operations_of (part 1 ps)))
-node ActionOf.Conditional ps = PartData.operand (conditional (operand_of (part 0 ps)) (branches_of (part 1 ps)))
 node ActionOf.Branches ps = PartData.branches (Some (record { question = (leaf_of (part 0 ps)).place; then = (operand_of (part 1 ps)).expression; otherwise = (operand_of (part 3 ps)).expression }))
-node ActionOf.NoBranches ps = PartData.branches None
 node ActionOf.Unary ps = PartData.operand (plain (Expressions.unary (prefix_operator_of (part 0 ps)).place (prefix_operator_of (part 0 ps)).operator (operand_of (part 1 ps)).expression))
 node ActionOf.Sizeof ps = PartData.operand (plain (sizeof (leaf_of (part 0 ps)).place (sizeof_operand_of (part 2 ps))))
 node ActionOf.SizeofType ps = PartData.sizeof_operand (PartData.sizeof_of_type (type_name_of (part 0 ps)))
@@ -130,8 +93,6 @@ node ActionOf.Bracket ps = PartData.operand (behind_bracket (leaf_of (part 0 ps)
 node ActionOf.Cast ps = PartData.bracketed (PartData.bracketed_cast (type_name_of (part 0 ps)) (operand_of (part 2 ps)).expression)
 node ActionOf.Group ps = PartData.bracketed (PartData.bracketed_operand (postfixed (bracketed (operand_of (part 0 ps))) (postfixes_of (part 2 ps))))
 node ActionOf.Postfixes ps = PartData.postfixes (((postfix_of (part 0 ps))) ∷ (postfixes_of (part 1 ps)))
-node ActionOf.NoPostfixes ps = PartData.postfixes []
-node ActionOf.Postfixed ps = PartData.operand (postfixed (operand_of (part 0 ps)) (postfixes_of (part 1 ps)))
 node ActionOf.TypeName ps = PartData.type_name (Expressions.type_name (Views.specifiers_of (specifiers_of (part 0 ps))) (pointers_of (part 1 ps)))
 node ActionOf.Index ps = PartData.postfix (Expressions.index (leaf_of (part 0 ps)).place (operand_of (part 1 ps)).expression)
 node ActionOf.Call ps = PartData.postfix (Expressions.call (leaf_of (part 0 ps)).place (Views.expressions_of (arguments_of (part 1 ps))))

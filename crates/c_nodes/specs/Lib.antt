@@ -1,3 +1,4 @@
+pub mod OperandNodes
 pub mod ExpressionNodes
 pub mod SpecifierNodes
 pub mod DeclaratorNodes

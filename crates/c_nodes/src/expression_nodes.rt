@@ -4,12 +4,14 @@ ghost use Rattle.c_program.specs.Expressions;
 ghost use Rattle.c_program.specs.Views;
 ghost use Rattle.c_program.specs.Views.{pointers_view, expression_view, operation_view, type_name_view, specifier_view};
 ghost use Rattle.c_parts.specs.PartData;
-ghost use Rattle.c_parts.specs.PartViews.{leaf_view, operand_view, branches_view, sizeof_operand_view, bracketed_view, expression_part_view, parts_view};
+ghost use Rattle.c_parts.specs.PartViews.{leaf_view, operand_view, sizeof_operand_view, bracketed_view, expression_part_view, parts_view};
 ghost use Rattle.c_parts.specs.Reading.{Fits};
-ghost use Rattle.c_nodes.specs.ExpressionNodes.{kinds, plain, binary, conditional, sizeof, behind_bracket, node};
+ghost use Rattle.c_nodes.specs.OperandNodes.{plain};
+ghost use Rattle.c_nodes.specs.ExpressionNodes.{kinds, sizeof, behind_bracket, node};
 
+use crate::operand_nodes::operand;
 use crate::postfix_nodes::{
-    argument, arrow, call, first_argument, group, index, member, postfixed_operand, postfixes,
+    argument, arrow, call, first_argument, group, index, member, postfixes,
 };
 use c_parts::{
     AssignmentSign, Bracketed, Branches, Chain, ExpressionPart, InfixOperator, Leaf, Operand,
@@ -28,24 +30,12 @@ pub enum ExpressionAction {
     Infix(BinaryOperator),
     /// An operator before its operand, which is a token.
     Prefix(UnaryOperator),
-    /// An identifier, or a name of the library.
-    Identifier,
-    /// A number or a character.
-    Constant,
     /// `operator operand`, and operations behind it.
     Operation(BinaryOperator),
     /// The same, where the operator was one of several.
     SignedOperation,
-    /// No more operations.
-    NoOperations,
-    /// `operand { operator operand }` (C11 6.5.5 to 6.5.14).
-    Binary,
-    /// `condition [ ? then : otherwise ]` (C11 6.5.15).
-    Conditional,
     /// `? then : otherwise`
     Branches,
-    /// No `?`.
-    NoBranches,
     /// `operator operand` (C11 6.5.3).
     Unary,
     /// `sizeof ( .. )` (C11 6.5.3.4).
@@ -62,10 +52,6 @@ pub enum ExpressionAction {
     Group,
     /// One postfix, and those behind it.
     Postfixes,
-    /// No more postfixes.
-    NoPostfixes,
-    /// `operand { postfix }` (C11 6.5.2).
-    Postfixed,
     /// `specifiers pointers` (C11 6.7.7).
     TypeName,
     /// `[ index ]` (C11 6.5.2.1).
@@ -112,8 +98,6 @@ pub(crate) fn expression_node(
             parts.leaf(),
             operator,
         ))),
-        ExpressionAction::Identifier => identifier(alloc, parts.leaf()),
-        ExpressionAction::Constant => constant(alloc, parts.leaf()),
         ExpressionAction::Operation(operator) => operation(
             parts.leaf(),
             parts.operand(),
@@ -125,13 +109,6 @@ pub(crate) fn expression_node(
             parts.operand(),
             parts.operations(),
         ),
-        ExpressionAction::NoOperations => Ok(ExpressionPart::Operations(Chain::new(alloc))),
-        ExpressionAction::Binary => binary_operand(alloc, parts.operand(), parts.operations()),
-        ExpressionAction::Conditional => conditional_operand(
-            alloc,
-            parts.operand(),
-            parts.branches(),
-        ),
         ExpressionAction::Branches => branches(
             alloc,
             parts.leaf(),
@@ -139,7 +116,6 @@ pub(crate) fn expression_node(
             parts.leaf(),
             parts.operand(),
         ),
-        ExpressionAction::NoBranches => Ok(ExpressionPart::Branches(None)),
         ExpressionAction::Unary => unary(alloc, parts.prefix_operator(), parts.operand()),
         ExpressionAction::Sizeof => sizeof_operand(
             alloc,
@@ -160,8 +136,6 @@ pub(crate) fn expression_node(
         ExpressionAction::Cast => cast(alloc, parts.type_name(), parts.leaf(), parts.operand()),
         ExpressionAction::Group => group(alloc, parts.operand(), parts.leaf(), parts.postfixes()),
         ExpressionAction::Postfixes => postfixes(parts.postfix(), parts.postfixes()),
-        ExpressionAction::NoPostfixes => Ok(ExpressionPart::Postfixes(Chain::new(alloc))),
-        ExpressionAction::Postfixed => postfixed_operand(alloc, parts.operand(), parts.postfixes()),
         ExpressionAction::TypeName => Ok(ExpressionPart::TypeName(type_name(
             parts.specifiers(),
             parts.pointers(),
@@ -212,18 +186,6 @@ fn prefix(sign: Leaf, operator: UnaryOperator) -> PrefixOperator
         place: sign.place,
         operator,
     }
-}
-
-fn identifier(alloc: Global, name: Leaf) -> Result<ExpressionPart, AllocError>
-    ensures { IfOk result (λ part. expression_part_view part ≡ PartData.operand (plain (Expressions.identifier (leaf_view name.entry)))) }
-{
-    Ok(ExpressionPart::Operand(operand(Expression::Identifier(name.word(alloc)?))))
-}
-
-fn constant(alloc: Global, literal: Leaf) -> Result<ExpressionPart, AllocError>
-    ensures { IfOk result (λ part. expression_part_view part ≡ PartData.operand (plain (Expressions.constant (leaf_view literal.entry)))) }
-{
-    Ok(ExpressionPart::Operand(operand(Expression::Constant(literal.word(alloc)?))))
 }
 
 fn operation(
@@ -297,52 +259,6 @@ fn step_sign(sign: Leaf, step: Step) -> StepSign
     StepSign {
         place: sign.place,
         step,
-    }
-}
-
-/// An expression that is not in brackets.
-pub(crate) fn operand(expression: Expression) -> Operand
-    ensures { operand_view result ≡ plain (expression_view expression) }
-{
-    Operand {
-        expression,
-        bracketed: false,
-    }
-}
-
-/// An operand with operations behind it, or itself where there are none.
-fn binary_operand(
-    alloc: Global,
-    first: Operand,
-    operations: Chain<Operation>,
-) -> Result<ExpressionPart, AllocError>
-    ensures { IfOk result (λ part. expression_part_view part ≡ PartData.operand (binary (operand_view first) (map operation_view operations))) }
-{
-    if operations.is_empty() {
-        return Ok(ExpressionPart::Operand(first));
-    }
-    Ok(ExpressionPart::Operand(operand(Expression::Binary {
-        first: Box::new(alloc, first.expression)?,
-        rest: operations.into_vec(),
-    })))
-}
-
-/// A condition with its branches, or itself where there are none.
-fn conditional_operand(
-    alloc: Global,
-    condition: Operand,
-    branches: Option<Branches>,
-) -> Result<ExpressionPart, AllocError>
-    ensures { IfOk result (λ part. expression_part_view part ≡ PartData.operand (conditional (operand_view condition) (option_map branches_view branches))) }
-{
-    match branches {
-        None => Ok(ExpressionPart::Operand(condition)),
-        Some(branches) => Ok(ExpressionPart::Operand(operand(Expression::Conditional {
-            condition: Box::new(alloc, condition.expression)?,
-            question: branches.question,
-            then: branches.then,
-            otherwise: branches.otherwise,
-        }))),
     }
 }
 

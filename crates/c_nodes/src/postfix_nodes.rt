@@ -4,9 +4,10 @@ ghost use Rattle.c_program.specs.Views;
 ghost use Rattle.c_program.specs.Views.{expression_view, postfix_view};
 ghost use Rattle.c_parts.specs.PartData;
 ghost use Rattle.c_parts.specs.PartViews.{leaf_view, operand_view, expression_part_view};
-ghost use Rattle.c_nodes.specs.ExpressionNodes.{bracketed, postfixed};
+ghost use Rattle.c_nodes.specs.OperandNodes.{postfixed};
+ghost use Rattle.c_nodes.specs.ExpressionNodes.{bracketed};
 
-use crate::expression_nodes::operand;
+use crate::operand_nodes::postfixed;
 use c_parts::{Bracketed, Chain, ExpressionPart, Leaf, Operand};
 use c_program::{Expression, Postfix};
 use std::alloc::{AllocError, Global};
@@ -19,16 +20,6 @@ pub(crate) fn postfixes(
 {
     postfixes.put_front(one)?;
     Ok(ExpressionPart::Postfixes(postfixes))
-}
-
-pub(crate) fn postfixed_operand(
-    alloc: Global,
-    inner: Operand,
-    postfixes: Chain<Postfix>,
-) -> Result<ExpressionPart, AllocError>
-    ensures { IfOk result (λ part. expression_part_view part ≡ PartData.operand (postfixed (operand_view inner) (map postfix_view postfixes))) }
-{
-    Ok(ExpressionPart::Operand(postfixed(alloc, inner, postfixes)?))
 }
 
 pub(crate) fn group(
@@ -100,23 +91,6 @@ pub(crate) fn arrow(alloc: Global, sign: Leaf, member: Leaf) -> Result<Expressio
     Ok(ExpressionPart::Postfix(Postfix::Arrow {
         place: sign.place,
         member: member.word(alloc)?,
-    }))
-}
-
-/// An operand with postfixes behind it, or itself where there are none.
-fn postfixed(
-    alloc: Global,
-    inner: Operand,
-    postfixes: Chain<Postfix>,
-) -> Result<Operand, AllocError>
-    ensures { IfOk result (λ o. operand_view o ≡ postfixed (operand_view inner) (map postfix_view postfixes)) }
-{
-    if postfixes.is_empty() {
-        return Ok(inner);
-    }
-    Ok(operand(Expression::Postfix {
-        operand: Box::new(alloc, inner.expression)?,
-        postfixes: postfixes.into_vec(),
     }))
 }
 
