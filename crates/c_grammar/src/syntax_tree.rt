@@ -54,7 +54,7 @@ fn externals(
 {
     let mut parts = Parts::new(alloc);
     parts.put_front(built(alloc, text, tokens, events)?)?;
-    Ok(parts.externals().into_vec())
+    Ok(parts.external_part().externals().into_vec())
 }
 
 /// What the steps leave on the stack.

@@ -80,78 +80,87 @@ pub(crate) fn declarator_node(
     match action {
         DeclaratorAction::Qualifier(qualifier) => qualifiers(
             parts.leaf(),
-            parts.qualifiers(),
+            parts.declaration_part().qualifiers(),
             qualifier,
         ),
         DeclaratorAction::NoQualifiers => Ok(DeclarationPart::Qualifiers(Chain::new(alloc))),
-        DeclaratorAction::Pointer => pointer(parts.leaf(), parts.qualifiers(), parts.pointers()),
+        DeclaratorAction::Pointer => pointer(
+            parts.leaf(),
+            parts.declaration_part().qualifiers(),
+            parts.declaration_part().pointers(),
+        ),
         DeclaratorAction::NoPointers => Ok(DeclarationPart::Pointers(Chain::new(alloc))),
-        DeclaratorAction::Pointers => Ok(DeclarationPart::Pointers(parts.pointers())),
+        DeclaratorAction::Pointers => Ok(DeclarationPart::Pointers(
+            parts.declaration_part().pointers(),
+        )),
         DeclaratorAction::Bound => bound(
             parts.leaf(),
-            parts.optional_expression(),
+            parts.expression_part().optional_expression(),
             parts.leaf(),
-            parts.bounds(),
+            parts.declaration_part().bounds(),
         ),
         DeclaratorAction::MemberBound => member_bound(
             parts.leaf(),
-            parts.operand(),
+            parts.expression_part().operand(),
             parts.leaf(),
-            parts.bounds(),
+            parts.declaration_part().bounds(),
         ),
         DeclaratorAction::NoBounds => Ok(DeclarationPart::Bounds(Chain::new(alloc))),
-        DeclaratorAction::Bounds => Ok(DeclarationPart::Bounds(parts.bounds())),
+        DeclaratorAction::Bounds => Ok(DeclarationPart::Bounds(parts.declaration_part().bounds())),
         DeclaratorAction::Declarator => one_declarator(
             alloc,
-            parts.pointers(),
+            parts.declaration_part().pointers(),
             parts.leaf(),
-            parts.bounds(),
+            parts.declaration_part().bounds(),
         ),
         DeclaratorAction::InitializerExpression => Ok(DeclarationPart::Initializer(
-            Initializer::Expression(parts.operand().expression),
+            Initializer::Expression(parts.expression_part().operand().expression),
         )),
         DeclaratorAction::InitializerList => initializer_list(
             parts.leaf(),
-            parts.initializer(),
-            parts.initializers(),
+            parts.declaration_part().initializer(),
+            parts.declaration_part().initializers(),
         ),
         DeclaratorAction::InitializersBehindComma => {
             parts.leaf();
-            Ok(DeclarationPart::Initializers(parts.initializers()))
+            Ok(DeclarationPart::Initializers(parts.declaration_part().initializers()))
         },
         DeclaratorAction::InitializersAgain => Ok(DeclarationPart::Initializers(
-            parts.initializers(),
+            parts.declaration_part().initializers(),
         )),
-        DeclaratorAction::Initializers => initializers(parts.initializer(), parts.initializers()),
+        DeclaratorAction::Initializers => initializers(
+            parts.declaration_part().initializer(),
+            parts.declaration_part().initializers(),
+        ),
         DeclaratorAction::NoInitializers => Ok(DeclarationPart::Initializers(Chain::new(alloc))),
         DeclaratorAction::Initialization => Ok(DeclarationPart::Initialization(initialization(
             parts.leaf(),
-            parts.initializer(),
+            parts.declaration_part().initializer(),
         ))),
         DeclaratorAction::NoInitialization => Ok(DeclarationPart::Initialization(None)),
         DeclaratorAction::InitDeclarators => init_declarators(
             alloc,
             parts.leaf(),
-            parts.pointers(),
+            parts.declaration_part().pointers(),
             parts.leaf(),
-            parts.bounds(),
-            parts.initialization(),
-            parts.init_declarators(),
+            parts.declaration_part().bounds(),
+            parts.declaration_part().initialization(),
+            parts.declaration_part().init_declarators(),
         ),
         DeclaratorAction::NoInitDeclarators => Ok(DeclarationPart::InitDeclarators(Chain::new(
             alloc,
         ))),
         DeclaratorAction::Objects => Ok(DeclarationPart::Objects(objects(
-            parts.bounds(),
-            parts.initialization(),
-            parts.init_declarators(),
+            parts.declaration_part().bounds(),
+            parts.declaration_part().initialization(),
+            parts.declaration_part().init_declarators(),
         ))),
         DeclaratorAction::OnlyTypes => Ok(DeclarationPart::InitDeclarators(Chain::new(alloc))),
         DeclaratorAction::Declarators => declarators(
             alloc,
-            parts.pointers(),
+            parts.declaration_part().pointers(),
             parts.leaf(),
-            parts.objects(),
+            parts.declaration_part().objects(),
         ),
     }
 }

@@ -1,8 +1,7 @@
 ghost use Rattle.std.specs.Prelude.{◌≡◌, ◌∷◌, map, IfOk, Some};
-ghost use Rattle.std.specs.Option.{option_map};
 ghost use Rattle.c_program.specs.Expressions;
 ghost use Rattle.c_program.specs.Views;
-ghost use Rattle.c_program.specs.Views.{pointers_view, expression_view, operation_view, type_name_view, specifier_view};
+ghost use Rattle.c_program.specs.Views.{pointers_view, operation_view, type_name_view, specifier_view};
 ghost use Rattle.c_parts.specs.PartData;
 ghost use Rattle.c_parts.specs.PartViews.{leaf_view, operand_view, sizeof_operand_view, bracketed_view, expression_part_view, parts_view};
 ghost use Rattle.c_parts.specs.Reading.{Fits};
@@ -10,9 +9,7 @@ ghost use Rattle.c_nodes.specs.OperandNodes.{plain};
 ghost use Rattle.c_nodes.specs.ExpressionNodes.{kinds, sizeof, behind_bracket, node};
 
 use crate::operand_nodes::operand;
-use crate::postfix_nodes::{
-    argument, arrow, call, first_argument, group, index, member, postfixes,
-};
+use crate::postfix_nodes::{argument, arrow, call, group, index, member, postfixes};
 use c_parts::{
     AssignmentSign, Bracketed, Branches, Chain, ExpressionPart, InfixOperator, Leaf, Operand,
     Parts, PrefixOperator, SizeofOperand, StepSign,
@@ -90,101 +87,115 @@ pub(crate) fn expression_node(
     ensures { IfOk result (λ p. expression_part_view p ≡ node action (parts_view parts.old)) }
 {
     match action {
-        ExpressionAction::Infix(operator) => Ok(ExpressionPart::InfixOperator(infix(
-            parts.leaf(),
+        ExpressionAction::Infix(operator) => Ok(ExpressionPart::InfixOperator(InfixOperator {
+            place: parts.leaf().place,
             operator,
-        ))),
-        ExpressionAction::Prefix(operator) => Ok(ExpressionPart::PrefixOperator(prefix(
-            parts.leaf(),
+        })),
+        ExpressionAction::Prefix(operator) => Ok(ExpressionPart::PrefixOperator(PrefixOperator {
+            place: parts.leaf().place,
             operator,
-        ))),
+        })),
         ExpressionAction::Operation(operator) => operation(
             parts.leaf(),
-            parts.operand(),
-            parts.operations(),
+            parts.expression_part().operand(),
+            parts.expression_part().operations(),
             operator,
         ),
         ExpressionAction::SignedOperation => signed_operation(
-            parts.infix_operator(),
-            parts.operand(),
-            parts.operations(),
+            parts.expression_part().infix_operator(),
+            parts.expression_part().operand(),
+            parts.expression_part().operations(),
         ),
         ExpressionAction::Branches => branches(
             alloc,
             parts.leaf(),
-            parts.operand(),
+            parts.expression_part().operand(),
             parts.leaf(),
-            parts.operand(),
+            parts.expression_part().operand(),
         ),
-        ExpressionAction::Unary => unary(alloc, parts.prefix_operator(), parts.operand()),
+        ExpressionAction::Unary => unary(
+            alloc,
+            parts.expression_part().prefix_operator(),
+            parts.expression_part().operand(),
+        ),
         ExpressionAction::Sizeof => sizeof_operand(
             alloc,
             parts.leaf(),
             parts.leaf(),
-            parts.sizeof_operand(),
+            parts.expression_part().sizeof_operand(),
         ),
         ExpressionAction::SizeofType => Ok(ExpressionPart::SizeofOperand(SizeofOperand::Type(
-            parts.type_name(),
+            parts.expression_part().type_name(),
         ))),
         ExpressionAction::SizeofExpression => Ok(ExpressionPart::SizeofOperand(
-            SizeofOperand::Expression(parts.operand().expression),
+            SizeofOperand::Expression(parts.expression_part().operand().expression),
         )),
         ExpressionAction::Bracket => Ok(ExpressionPart::Operand(behind_bracket(
             parts.leaf(),
-            parts.bracketed(),
+            parts.expression_part().bracketed(),
         ))),
-        ExpressionAction::Cast => cast(alloc, parts.type_name(), parts.leaf(), parts.operand()),
-        ExpressionAction::Group => group(alloc, parts.operand(), parts.leaf(), parts.postfixes()),
-        ExpressionAction::Postfixes => postfixes(parts.postfix(), parts.postfixes()),
+        ExpressionAction::Cast => cast(
+            alloc,
+            parts.expression_part().type_name(),
+            parts.leaf(),
+            parts.expression_part().operand(),
+        ),
+        ExpressionAction::Group => group(
+            alloc,
+            parts.expression_part().operand(),
+            parts.leaf(),
+            parts.expression_part().postfixes(),
+        ),
+        ExpressionAction::Postfixes => postfixes(
+            parts.expression_part().postfix(),
+            parts.expression_part().postfixes(),
+        ),
         ExpressionAction::TypeName => Ok(ExpressionPart::TypeName(type_name(
-            parts.specifiers(),
-            parts.pointers(),
+            parts.declaration_part().specifiers(),
+            parts.declaration_part().pointers(),
         ))),
         ExpressionAction::Index => Ok(ExpressionPart::Postfix(index(
             parts.leaf(),
-            parts.operand(),
+            parts.expression_part().operand(),
         ))),
         ExpressionAction::Call => Ok(ExpressionPart::Postfix(call(
             parts.leaf(),
-            parts.arguments(),
+            parts.expression_part().arguments(),
         ))),
-        ExpressionAction::FirstArgument => first_argument(parts.operand(), parts.arguments()),
-        ExpressionAction::Argument => argument(parts.leaf(), parts.operand(), parts.arguments()),
+        ExpressionAction::FirstArgument => argument(
+            parts.expression_part().operand(),
+            parts.expression_part().arguments(),
+        ),
+        ExpressionAction::Argument => {
+            parts.leaf();
+            argument(
+                parts.expression_part().operand(),
+                parts.expression_part().arguments(),
+            )
+        }
         ExpressionAction::NoArguments => Ok(ExpressionPart::Arguments(Chain::new(alloc))),
         ExpressionAction::Member => member(alloc, parts.leaf(), parts.leaf()),
         ExpressionAction::Arrow => arrow(alloc, parts.leaf(), parts.leaf()),
         ExpressionAction::SomeExpression => Ok(ExpressionPart::OptionalExpression(Some(
-            parts.operand().expression,
+            parts.expression_part().operand().expression,
         ))),
-        ExpressionAction::InitialExpression => Ok(ExpressionPart::OptionalExpression(
-            initial_expression(parts.leaf(), parts.operand()),
-        )),
+        ExpressionAction::InitialExpression => {
+            parts.leaf();
+            Ok(ExpressionPart::OptionalExpression(Some(
+                parts.expression_part().operand().expression,
+            )))
+        }
         ExpressionAction::NoExpression => Ok(ExpressionPart::OptionalExpression(None)),
         ExpressionAction::AssignmentSign(operator) => Ok(ExpressionPart::AssignmentSign(
-            assignment_sign(parts.leaf(), operator),
+            AssignmentSign {
+                place: parts.leaf().place,
+                operator,
+            },
         )),
-        ExpressionAction::StepSign(step) => Ok(ExpressionPart::StepSign(step_sign(
-            parts.leaf(),
+        ExpressionAction::StepSign(step) => Ok(ExpressionPart::StepSign(StepSign {
+            place: parts.leaf().place,
             step,
-        ))),
-    }
-}
-
-fn infix(sign: Leaf, operator: BinaryOperator) -> InfixOperator
-    ensures { result ≡ record { place = (leaf_view sign.entry).place; operator = operator } }
-{
-    InfixOperator {
-        place: sign.place,
-        operator,
-    }
-}
-
-fn prefix(sign: Leaf, operator: UnaryOperator) -> PrefixOperator
-    ensures { result ≡ record { place = (leaf_view sign.entry).place; operator = operator } }
-{
-    PrefixOperator {
-        place: sign.place,
-        operator,
+        })),
     }
 }
 
@@ -235,30 +246,6 @@ fn type_name(specifiers: Chain<Specifier>, pointers: Chain<Pointer>) -> TypeName
     TypeName {
         specifiers: specifiers.into_vec(),
         pointers: pointers.into_vec(),
-    }
-}
-
-fn initial_expression(_: Leaf, inner: Operand) -> Option<Expression>
-    ensures { option_map expression_view result ≡ Some (operand_view inner).expression }
-{
-    Some(inner.expression)
-}
-
-fn assignment_sign(sign: Leaf, operator: AssignmentOperator) -> AssignmentSign
-    ensures { result ≡ record { place = (leaf_view sign.entry).place; operator = operator } }
-{
-    AssignmentSign {
-        place: sign.place,
-        operator,
-    }
-}
-
-fn step_sign(sign: Leaf, step: Step) -> StepSign
-    ensures { result ≡ record { place = (leaf_view sign.entry).place; step = step } }
-{
-    StepSign {
-        place: sign.place,
-        step,
     }
 }
 

@@ -73,59 +73,64 @@ pub(crate) fn external_node(
     ensures { IfOk result (λ p. external_part_view p ≡ node action (parts_view parts.old)) }
 {
     match action {
-        ExternalAction::Externals => externals(parts.external(), parts.externals()),
+        ExternalAction::Externals => externals(
+            parts.external_part().external(),
+            parts.external_part().externals(),
+        ),
         ExternalAction::NoExternals => Ok(ExternalPart::Externals(Chain::new(alloc))),
-        ExternalAction::Unit => Ok(ExternalPart::Externals(parts.externals())),
+        ExternalAction::Unit => Ok(ExternalPart::Externals(parts.external_part().externals())),
         ExternalAction::TypeDefinition => type_definition(
             alloc,
             parts.leaf(),
-            parts.specifiers(),
-            parts.pointers(),
+            parts.declaration_part().specifiers(),
+            parts.declaration_part().pointers(),
             parts.leaf(),
         ),
         ExternalAction::Declared => Ok(ExternalPart::External(external(
-            parts.specifiers(),
-            parts.external_rest(),
+            parts.declaration_part().specifiers(),
+            parts.external_part().external_rest(),
         ))),
         ExternalAction::OnlyTypes => Ok(ExternalPart::ExternalRest(ExternalRest::Declarators(
             Chain::new(alloc),
         ))),
         ExternalAction::Named => name_and_rest(
             alloc,
-            parts.pointers(),
+            parts.declaration_part().pointers(),
             parts.leaf(),
-            parts.name_rest(),
+            parts.external_part().name_rest(),
         ),
         ExternalAction::FunctionBehindName => Ok(ExternalPart::NameRest(NameRest::Function(
-            parts.function_rest(),
+            parts.external_part().function_rest(),
         ))),
         ExternalAction::ObjectsBehindName => Ok(ExternalPart::NameRest(NameRest::Objects(
-            parts.objects(),
+            parts.declaration_part().objects(),
         ))),
         ExternalAction::Function => function(
             parts.leaf(),
-            parts.parameter(),
-            parts.parameters(),
+            parts.external_part().parameter(),
+            parts.external_part().parameters(),
             parts.leaf(),
-            parts.optional_block(),
+            parts.external_part().optional_block(),
         ),
         ExternalAction::Parameters => parameters(
             parts.leaf(),
-            parts.parameter(),
-            parts.parameters(),
+            parts.external_part().parameter(),
+            parts.external_part().parameters(),
         ),
         ExternalAction::NoParameters => Ok(ExternalPart::Parameters(Chain::new(alloc))),
         ExternalAction::NoBody => Ok(ExternalPart::OptionalBlock(None)),
-        ExternalAction::SomeBody => Ok(ExternalPart::OptionalBlock(Some(parts.block()))),
+        ExternalAction::SomeBody => Ok(ExternalPart::OptionalBlock(Some(
+            parts.statement_part().block(),
+        ))),
         ExternalAction::Parameter => Ok(ExternalPart::Parameter(parameter(
-            parts.specifiers(),
-            parts.pointers(),
-            parts.parameter_name(),
+            parts.declaration_part().specifiers(),
+            parts.declaration_part().pointers(),
+            parts.external_part().parameter_name(),
         ))),
         ExternalAction::ParameterName => parameter_name(
             alloc,
             parts.leaf(),
-            parts.optional_bound(),
+            parts.external_part().optional_bound(),
         ),
         ExternalAction::NoParameterName => Ok(ExternalPart::ParameterName(ParameterName {
             name: None,
@@ -133,7 +138,7 @@ pub(crate) fn external_node(
         })),
         ExternalAction::ParameterBound => Ok(ExternalPart::OptionalBound(parameter_bound(
             parts.leaf(),
-            parts.optional_expression(),
+            parts.expression_part().optional_expression(),
             parts.leaf(),
         ))),
         ExternalAction::NoParameterBound => Ok(ExternalPart::OptionalBound(None)),

@@ -46,11 +46,23 @@ pub(crate) fn operand_node(
         OperandAction::Identifier => identifier(alloc, parts.leaf()),
         OperandAction::Constant => constant(alloc, parts.leaf()),
         OperandAction::NoOperations => Ok(ExpressionPart::Operations(Chain::new(alloc))),
-        OperandAction::Binary => binary_operand(alloc, parts.operand(), parts.operations()),
-        OperandAction::Conditional => conditional_operand(alloc, parts.operand(), parts.branches()),
+        OperandAction::Binary => binary_operand(
+            alloc,
+            parts.expression_part().operand(),
+            parts.expression_part().operations(),
+        ),
+        OperandAction::Conditional => conditional_operand(
+            alloc,
+            parts.expression_part().operand(),
+            parts.expression_part().branches(),
+        ),
         OperandAction::NoBranches => Ok(ExpressionPart::Branches(None)),
         OperandAction::NoPostfixes => Ok(ExpressionPart::Postfixes(Chain::new(alloc))),
-        OperandAction::Postfixed => postfixed_operand(alloc, parts.operand(), parts.postfixes()),
+        OperandAction::Postfixed => postfixed_operand(
+            alloc,
+            parts.expression_part().operand(),
+            parts.expression_part().postfixes(),
+        ),
     }
 }
 

@@ -55,18 +55,7 @@ pub(crate) fn call(bracket: Leaf, arguments: Chain<Expression>) -> Postfix
     }
 }
 
-pub(crate) fn first_argument(
-    argument: Operand,
-    mut arguments: Chain<Expression>,
-) -> Result<ExpressionPart, AllocError>
-    ensures { IfOk result (λ part. expression_part_view part ≡ PartData.arguments (((operand_view argument).expression) ∷ (map expression_view arguments))) }
-{
-    arguments.put_front(argument.expression)?;
-    Ok(ExpressionPart::Arguments(arguments))
-}
-
 pub(crate) fn argument(
-    _: Leaf,
     argument: Operand,
     mut arguments: Chain<Expression>,
 ) -> Result<ExpressionPart, AllocError>

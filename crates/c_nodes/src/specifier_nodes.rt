@@ -78,7 +78,10 @@ pub(crate) fn specifier_node(
     ensures { IfOk result (λ p. declaration_part_view p ≡ node action (parts_view parts.old)) }
 {
     match action {
-        SpecifierAction::Specifiers => specifiers(parts.specifier(), parts.specifiers()),
+        SpecifierAction::Specifiers => specifiers(
+            parts.declaration_part().specifier(),
+            parts.declaration_part().specifiers(),
+        ),
         SpecifierAction::NoSpecifiers => Ok(DeclarationPart::Specifiers(Chain::new(alloc))),
         SpecifierAction::Keyword(keyword) => Ok(DeclarationPart::Specifier(keyword_specifier(
             parts.leaf(),
@@ -88,75 +91,79 @@ pub(crate) fn specifier_node(
         SpecifierAction::TypedefName => typedef_name(alloc, parts.leaf()),
         SpecifierAction::Struct => Ok(DeclarationPart::Specifier(structure(
             parts.leaf(),
-            parts.structure(),
+            parts.declaration_part().structure(),
         ))),
         SpecifierAction::TaggedStructure => structure_with_tag(
             alloc,
             parts.leaf(),
-            parts.optional_members(),
+            parts.declaration_part().optional_members(),
         ),
         SpecifierAction::UntaggedStructure => Ok(DeclarationPart::Structure(
             Structure::Declaration {
                 tag: None,
-                members: parts.members(),
+                members: parts.declaration_part().members(),
             },
         )),
-        SpecifierAction::SomeMembers => Ok(DeclarationPart::OptionalMembers(Some(parts.members()))),
+        SpecifierAction::SomeMembers => Ok(DeclarationPart::OptionalMembers(Some(
+            parts.declaration_part().members(),
+        ))),
         SpecifierAction::NoMembers => Ok(DeclarationPart::OptionalMembers(None)),
         SpecifierAction::MembersInBraces => {
             parts.leaf();
-            Ok(DeclarationPart::Members(parts.members()))
+            Ok(DeclarationPart::Members(parts.declaration_part().members()))
         },
         SpecifierAction::MemberDeclaration => members(
-            parts.specifiers(),
-            parts.declarator(),
-            parts.declarators(),
+            parts.declaration_part().specifiers(),
+            parts.declaration_part().declarator(),
+            parts.declaration_part().declarators(),
             parts.leaf(),
-            parts.members(),
+            parts.declaration_part().members(),
         ),
         SpecifierAction::NoMoreMembers => Ok(DeclarationPart::Members(Chain::new(alloc))),
         SpecifierAction::Declarators => declarators(
             parts.leaf(),
-            parts.declarator(),
-            parts.declarators(),
+            parts.declaration_part().declarator(),
+            parts.declaration_part().declarators(),
         ),
         SpecifierAction::NoDeclarators => Ok(DeclarationPart::Declarators(Chain::new(alloc))),
         SpecifierAction::Enum => Ok(DeclarationPart::Specifier(enumeration(
             parts.leaf(),
-            parts.enumeration(),
+            parts.declaration_part().enumeration(),
         ))),
         SpecifierAction::TaggedEnumeration => enumeration_with_tag(
             alloc,
             parts.leaf(),
-            parts.optional_enumerators(),
+            parts.declaration_part().optional_enumerators(),
         ),
         SpecifierAction::UntaggedEnumeration => Ok(DeclarationPart::Enumeration(
             Enumeration::Declaration {
                 tag: None,
-                enumerators: parts.enumerators(),
+                enumerators: parts.declaration_part().enumerators(),
             },
         )),
         SpecifierAction::SomeEnumerators => Ok(DeclarationPart::OptionalEnumerators(Some(
-            parts.enumerators(),
+            parts.declaration_part().enumerators(),
         ))),
         SpecifierAction::NoEnumerators => Ok(DeclarationPart::OptionalEnumerators(None)),
         SpecifierAction::EnumeratorsInBraces => enumerators_in_braces(
             alloc,
             parts.leaf(),
             parts.leaf(),
-            parts.optional_expression(),
-            parts.enumerators(),
+            parts.expression_part().optional_expression(),
+            parts.declaration_part().enumerators(),
         ),
         SpecifierAction::EnumeratorsBehindComma => {
             parts.leaf();
-            Ok(DeclarationPart::Enumerators(parts.enumerators()))
+            Ok(DeclarationPart::Enumerators(parts.declaration_part().enumerators()))
         },
-        SpecifierAction::EnumeratorsAgain => Ok(DeclarationPart::Enumerators(parts.enumerators())),
+        SpecifierAction::EnumeratorsAgain => Ok(DeclarationPart::Enumerators(
+            parts.declaration_part().enumerators(),
+        )),
         SpecifierAction::Enumerator => enumerator(
             alloc,
             parts.leaf(),
-            parts.optional_expression(),
-            parts.enumerators(),
+            parts.expression_part().optional_expression(),
+            parts.declaration_part().enumerators(),
         ),
         SpecifierAction::NoMoreEnumerators => Ok(DeclarationPart::Enumerators(Chain::new(alloc))),
     }

@@ -4,7 +4,7 @@ ghost use Rattle.c_program.specs.Statements;
 ghost use Rattle.c_program.specs.Views;
 ghost use Rattle.c_program.specs.Views.{pointers_view, expression_view, specifier_view};
 ghost use Rattle.c_program.specs.StatementViews;
-ghost use Rattle.c_program.specs.StatementViews.{init_declarator_view, simple_view, leave_view, for_start_view, statement_view, block_view, item_view, otherwise_view, body_view, clause_view, if_view};
+ghost use Rattle.c_program.specs.StatementViews.{declaration_view, init_declarator_view, simple_view, for_start_view, statement_view, block_view, item_view, otherwise_view, body_view, clause_view, if_view};
 ghost use Rattle.c_parts.specs.PartData;
 ghost use Rattle.c_parts.specs.PartViews.{leaf_view, operand_view, statement_part_view, parts_view};
 ghost use Rattle.c_parts.specs.Reading.{Fits};
@@ -84,92 +84,120 @@ pub(crate) fn statement_node(
     ensures { IfOk result (λ p. statement_part_view p ≡ node action (parts_view parts.old)) }
 {
     match action {
-        StatementAction::Block => Ok(StatementPart::Block(block(parts.leaf(), parts.items()))),
-        StatementAction::Items => items(parts.item(), parts.items()),
+        StatementAction::Block => Ok(StatementPart::Block(block(
+            parts.leaf(),
+            parts.statement_part().items(),
+        ))),
+        StatementAction::Items => items(
+            parts.statement_part().item(),
+            parts.statement_part().items(),
+        ),
         StatementAction::NoItems => Ok(StatementPart::Items(Chain::new(alloc))),
-        StatementAction::DeclarationItem => declaration_item(
+        StatementAction::DeclarationItem => boxed_item(
             alloc,
-            parts.specifiers(),
-            parts.init_declarators(),
+            Item::Declaration(declaration(
+                parts.declaration_part().specifiers(),
+                parts.declaration_part().init_declarators(),
+            )),
         ),
-        StatementAction::StatementItem => statement_item(alloc, parts.statement()),
-        StatementAction::LeaveItem => leave_item(alloc, parts.leave()),
-        StatementAction::BlockStatement => block_statement(alloc, parts.block()),
-        StatementAction::IfStatement => if_statement(alloc, parts.if_statement()),
-        StatementAction::While => while_statement(
+        StatementAction::StatementItem => {
+            boxed_item(alloc, Item::Statement(parts.statement_part().statement()))
+        }
+        StatementAction::LeaveItem => {
+            boxed_item(alloc, Item::Leave(parts.statement_part().leave()))
+        }
+        StatementAction::BlockStatement => {
+            boxed_statement(alloc, Statement::Block(parts.statement_part().block()))
+        }
+        StatementAction::IfStatement => {
+            boxed_statement(alloc, Statement::If(parts.statement_part().if_statement()))
+        }
+        StatementAction::While => boxed_statement(
             alloc,
-            parts.leaf(),
-            parts.leaf(),
-            parts.operand(),
-            parts.leaf(),
-            parts.block(),
+            while_statement(
+                parts.leaf(),
+                parts.leaf(),
+                parts.expression_part().operand(),
+                parts.leaf(),
+                parts.statement_part().block(),
+            ),
         ),
-        StatementAction::Do => do_statement(
+        StatementAction::Do => boxed_statement(
             alloc,
-            parts.leaf(),
-            parts.block(),
-            parts.leaf(),
-            parts.leaf(),
-            parts.operand(),
+            do_statement(
+                parts.leaf(),
+                parts.statement_part().block(),
+                parts.leaf(),
+                parts.leaf(),
+                parts.expression_part().operand(),
+            ),
         ),
-        StatementAction::For => for_statement(
+        StatementAction::For => boxed_statement(
             alloc,
-            parts.leaf(),
-            parts.leaf(),
-            parts.optional_for_start(),
-            parts.leaf(),
-            parts.optional_expression(),
-            parts.leaf(),
-            parts.optional_simple(),
-            parts.leaf(),
-            parts.block(),
+            for_statement(
+                parts.leaf(),
+                parts.leaf(),
+                parts.statement_part().optional_for_start(),
+                parts.leaf(),
+                parts.expression_part().optional_expression(),
+                parts.leaf(),
+                parts.statement_part().optional_simple(),
+                parts.leaf(),
+                parts.statement_part().block(),
+            ),
         ),
-        StatementAction::Switch => switch_statement(
+        StatementAction::Switch => boxed_statement(
             alloc,
-            parts.leaf(),
-            parts.leaf(),
-            parts.operand(),
-            parts.leaf(),
-            parts.leaf(),
-            parts.clauses(),
-            parts.optional_body(),
+            switch_statement(
+                parts.leaf(),
+                parts.leaf(),
+                parts.expression_part().operand(),
+                parts.leaf(),
+                parts.leaf(),
+                parts.statement_part().clauses(),
+                parts.statement_part().optional_body(),
+            ),
         ),
-        StatementAction::Continue => continue_statement(alloc, parts.leaf()),
-        StatementAction::SimpleStatement => simple_statement(alloc, parts.simple()),
-        StatementAction::Empty => empty(alloc, parts.leaf()),
+        StatementAction::Continue => boxed_statement(alloc, continue_statement(parts.leaf())),
+        StatementAction::SimpleStatement => {
+            boxed_statement(alloc, Statement::Simple(parts.statement_part().simple()))
+        }
+        StatementAction::Empty => boxed_statement(alloc, empty(parts.leaf())),
         StatementAction::If => Ok(StatementPart::IfStatement(if_node(
             parts.leaf(),
             parts.leaf(),
-            parts.operand(),
+            parts.expression_part().operand(),
             parts.leaf(),
-            parts.block(),
-            parts.otherwise(),
+            parts.statement_part().block(),
+            parts.statement_part().otherwise(),
         ))),
         StatementAction::Else => {
             parts.leaf();
-            Ok(StatementPart::Otherwise(Some(parts.otherwise_branch())))
+            Ok(StatementPart::Otherwise(Some(parts.statement_part().otherwise_branch())))
         }
         StatementAction::NoElse => Ok(StatementPart::Otherwise(None)),
         StatementAction::OtherwiseBlock => Ok(StatementPart::OtherwiseBranch(Otherwise::Block(
-            parts.block(),
+            parts.statement_part().block(),
         ))),
-        StatementAction::OtherwiseIf => otherwise_if(alloc, parts.if_statement()),
+        StatementAction::OtherwiseIf => otherwise_if(alloc, parts.statement_part().if_statement()),
         StatementAction::SomeForStart => Ok(StatementPart::OptionalForStart(Some(
-            parts.for_start(),
+            parts.statement_part().for_start(),
         ))),
         StatementAction::NoForStart => Ok(StatementPart::OptionalForStart(None)),
         StatementAction::StartDeclaration => start_declaration(
             alloc,
-            parts.specifiers(),
-            parts.pointers(),
+            parts.declaration_part().specifiers(),
+            parts.declaration_part().pointers(),
             parts.leaf(),
             parts.leaf(),
-            parts.operand(),
+            parts.expression_part().operand(),
         ),
         StatementAction::StartSimple => Ok(StatementPart::ForStart(ForStart::Simple(
-            parts.simple(),
+            parts.statement_part().simple(),
         ))),
-        StatementAction::SomeSimple => Ok(StatementPart::OptionalSimple(Some(parts.simple()))),
+        StatementAction::SomeSimple => Ok(StatementPart::OptionalSimple(Some(
+            parts.statement_part().simple(),
+        ))),
         StatementAction::NoSimple => Ok(StatementPart::OptionalSimple(None)),
     }
 }
@@ -190,88 +218,48 @@ fn items(one: Item, mut items: Chain<Item>) -> Result<StatementPart, AllocError>
     Ok(StatementPart::Items(items))
 }
 
-fn declaration_item(
-    alloc: Global,
-    specifiers: Chain<Specifier>,
-    declarators: Chain<InitDeclarator>,
-) -> Result<StatementPart, AllocError>
-    ensures { IfOk result (λ part. statement_part_view part ≡ PartData.item (Statements.declaration_item (record { specifiers = Views.specifiers_of (map specifier_view specifiers); declarators = (map init_declarator_view declarators) }))) }
+fn declaration(specifiers: Chain<Specifier>, declarators: Chain<InitDeclarator>) -> Declaration
+    ensures { declaration_view result ≡ record { specifiers = Views.specifiers_of (map specifier_view specifiers); declarators = map init_declarator_view declarators } }
 {
-    Ok(StatementPart::Item(Box::new(
-        alloc,
-        Item::Declaration(Declaration {
-            specifiers: specifiers.into_vec(),
-            declarators: declarators.into_vec(),
-        }),
-    )?))
+    Declaration {
+        specifiers: specifiers.into_vec(),
+        declarators: declarators.into_vec(),
+    }
 }
 
-fn statement_item(alloc: Global, statement: Statement) -> Result<StatementPart, AllocError>
-    ensures { IfOk result (λ part. statement_part_view part ≡ PartData.item (Statements.statement_item (statement_view statement))) }
+fn boxed_item(alloc: Global, item: Item) -> Result<StatementPart, AllocError>
+    ensures { IfOk result (λ part. statement_part_view part ≡ PartData.item (item_view item)) }
 {
-    Ok(StatementPart::Item(Box::new(alloc, Item::Statement(statement))?))
+    Ok(StatementPart::Item(Box::new(alloc, item)?))
 }
 
-fn leave_item(alloc: Global, leave: Leave) -> Result<StatementPart, AllocError>
-    ensures { IfOk result (λ part. statement_part_view part ≡ PartData.item (Statements.leave_item (leave_view leave))) }
+fn boxed_statement(alloc: Global, statement: Statement) -> Result<StatementPart, AllocError>
+    ensures { IfOk result (λ part. statement_part_view part ≡ PartData.statement (statement_view statement)) }
 {
-    Ok(StatementPart::Item(Box::new(alloc, Item::Leave(leave))?))
+    Ok(StatementPart::Statement(Box::new(alloc, statement)?))
 }
 
-fn block_statement(alloc: Global, block: Block) -> Result<StatementPart, AllocError>
-    ensures { IfOk result (λ part. statement_part_view part ≡ PartData.statement (Statements.block_statement (block_view block))) }
+fn while_statement(keyword: Leaf, _: Leaf, condition: Operand, _: Leaf, body: Block) -> Statement
+    ensures { statement_view result ≡ Statements.while_statement (leaf_view keyword.entry).place (operand_view condition).expression (block_view body) }
 {
-    Ok(StatementPart::Statement(Box::new(alloc, Statement::Block(block))?))
+    Statement::While {
+        place: keyword.place,
+        condition: condition.expression,
+        body,
+    }
 }
 
-fn if_statement(alloc: Global, inner: If) -> Result<StatementPart, AllocError>
-    ensures { IfOk result (λ part. statement_part_view part ≡ PartData.statement (Statements.if_statement (if_view inner))) }
+fn do_statement(_: Leaf, body: Block, keyword: Leaf, _: Leaf, condition: Operand) -> Statement
+    ensures { statement_view result ≡ Statements.do_statement (block_view body) (leaf_view keyword.entry).place (operand_view condition).expression }
 {
-    Ok(StatementPart::Statement(Box::new(alloc, Statement::If(inner))?))
-}
-
-fn while_statement(
-    alloc: Global,
-    keyword: Leaf,
-    _: Leaf,
-    condition: Operand,
-    _: Leaf,
-    body: Block,
-) -> Result<StatementPart, AllocError>
-    ensures { IfOk result (λ part. statement_part_view part ≡ PartData.statement (Statements.while_statement (leaf_view keyword.entry).place (operand_view condition).expression (block_view body))) }
-{
-    Ok(StatementPart::Statement(Box::new(
-        alloc,
-        Statement::While {
-            place: keyword.place,
-            condition: condition.expression,
-            body,
-        },
-    )?))
-}
-
-fn do_statement(
-    alloc: Global,
-    _: Leaf,
-    body: Block,
-    keyword: Leaf,
-    _: Leaf,
-    condition: Operand,
-) -> Result<StatementPart, AllocError>
-    ensures { IfOk result (λ part. statement_part_view part ≡ PartData.statement (Statements.do_statement (block_view body) (leaf_view keyword.entry).place (operand_view condition).expression)) }
-{
-    Ok(StatementPart::Statement(Box::new(
-        alloc,
-        Statement::DoWhile {
-            body,
-            place: keyword.place,
-            condition: condition.expression,
-        },
-    )?))
+    Statement::DoWhile {
+        body,
+        place: keyword.place,
+        condition: condition.expression,
+    }
 }
 
 fn for_statement(
-    alloc: Global,
     keyword: Leaf,
     _: Leaf,
     start: Option<ForStart>,
@@ -281,23 +269,19 @@ fn for_statement(
     step: Option<Simple>,
     _: Leaf,
     body: Block,
-) -> Result<StatementPart, AllocError>
-    ensures { IfOk result (λ part. statement_part_view part ≡ PartData.statement (Statements.for_statement (leaf_view keyword.entry).place (option_map for_start_view start) (option_map expression_view condition) (option_map simple_view step) (block_view body))) }
+) -> Statement
+    ensures { statement_view result ≡ Statements.for_statement (leaf_view keyword.entry).place (option_map for_start_view start) (option_map expression_view condition) (option_map simple_view step) (block_view body) }
 {
-    Ok(StatementPart::Statement(Box::new(
-        alloc,
-        Statement::For {
-            place: keyword.place,
-            start,
-            condition,
-            step,
-            body,
-        },
-    )?))
+    Statement::For {
+        place: keyword.place,
+        start,
+        condition,
+        step,
+        body,
+    }
 }
 
 fn switch_statement(
-    alloc: Global,
     keyword: Leaf,
     _: Leaf,
     subject: Operand,
@@ -305,46 +289,31 @@ fn switch_statement(
     _: Leaf,
     clauses: Chain<Clause>,
     default: Option<Body>,
-) -> Result<StatementPart, AllocError>
-    ensures { IfOk result (λ part. statement_part_view part ≡ PartData.statement (Statements.switch_statement (leaf_view keyword.entry).place (operand_view subject).expression (StatementViews.clauses_of (map clause_view clauses)) (StatementViews.maybe_body (option_map body_view default)))) }
+) -> Statement
+    ensures { statement_view result ≡ Statements.switch_statement (leaf_view keyword.entry).place (operand_view subject).expression (StatementViews.clauses_of (map clause_view clauses)) (StatementViews.maybe_body (option_map body_view default)) }
 {
-    Ok(StatementPart::Statement(Box::new(
-        alloc,
-        Statement::Switch {
-            place: keyword.place,
-            subject: subject.expression,
-            clauses: clauses.into_vec(),
-            default,
-        },
-    )?))
+    Statement::Switch {
+        place: keyword.place,
+        subject: subject.expression,
+        clauses: clauses.into_vec(),
+        default,
+    }
 }
 
-fn continue_statement(alloc: Global, keyword: Leaf) -> Result<StatementPart, AllocError>
-    ensures { IfOk result (λ part. statement_part_view part ≡ PartData.statement (Statements.continue_statement (leaf_view keyword.entry).place)) }
+fn continue_statement(keyword: Leaf) -> Statement
+    ensures { statement_view result ≡ Statements.continue_statement (leaf_view keyword.entry).place }
 {
-    Ok(StatementPart::Statement(Box::new(
-        alloc,
-        Statement::Continue {
-            place: keyword.place,
-        },
-    )?))
+    Statement::Continue {
+        place: keyword.place,
+    }
 }
 
-fn simple_statement(alloc: Global, simple: Simple) -> Result<StatementPart, AllocError>
-    ensures { IfOk result (λ part. statement_part_view part ≡ PartData.statement (Statements.simple_statement (simple_view simple))) }
+fn empty(semicolon: Leaf) -> Statement
+    ensures { statement_view result ≡ Statements.empty_statement (leaf_view semicolon.entry).place }
 {
-    Ok(StatementPart::Statement(Box::new(alloc, Statement::Simple(simple))?))
-}
-
-fn empty(alloc: Global, semicolon: Leaf) -> Result<StatementPart, AllocError>
-    ensures { IfOk result (λ part. statement_part_view part ≡ PartData.statement (Statements.empty_statement (leaf_view semicolon.entry).place)) }
-{
-    Ok(StatementPart::Statement(Box::new(
-        alloc,
-        Statement::Empty {
-            place: semicolon.place,
-        },
-    )?))
+    Statement::Empty {
+        place: semicolon.place,
+    }
 }
 
 fn if_node(

@@ -62,47 +62,56 @@ pub(crate) fn switch_node(
     ensures { IfOk result (λ p. statement_part_view p ≡ node action (parts_view parts.old)) }
 {
     match action {
-        SwitchAction::Clauses => clauses(parts.clause(), parts.clauses()),
+        SwitchAction::Clauses => clauses(
+            parts.statement_part().clause(),
+            parts.statement_part().clauses(),
+        ),
         SwitchAction::NoClauses => Ok(StatementPart::Clauses(Chain::new(alloc))),
         SwitchAction::Default => {
             parts.leaf();
             parts.leaf();
-            Ok(StatementPart::OptionalBody(Some(parts.body())))
+            Ok(StatementPart::OptionalBody(Some(parts.statement_part().body())))
         },
         SwitchAction::NoDefault => Ok(StatementPart::OptionalBody(None)),
         SwitchAction::Clause => one_clause(
             parts.leaf(),
-            parts.operand(),
+            parts.expression_part().operand(),
             parts.leaf(),
-            parts.case_labels(),
-            parts.body(),
+            parts.statement_part().case_labels(),
+            parts.statement_part().body(),
         ),
         SwitchAction::CaseLabels => case_labels(
             parts.leaf(),
-            parts.operand(),
+            parts.expression_part().operand(),
             parts.leaf(),
-            parts.case_labels(),
+            parts.statement_part().case_labels(),
         ),
         SwitchAction::NoCaseLabels => Ok(StatementPart::CaseLabels(Chain::new(alloc))),
-        SwitchAction::Body => Ok(StatementPart::Body(body(parts.statements(), parts.leave()))),
-        SwitchAction::Statements => statements(parts.statement(), parts.statements()),
+        SwitchAction::Body => Ok(StatementPart::Body(body(
+            parts.statement_part().statements(),
+            parts.statement_part().leave(),
+        ))),
+        SwitchAction::Statements => statements(
+            parts.statement_part().statement(),
+            parts.statement_part().statements(),
+        ),
         SwitchAction::NoStatements => Ok(StatementPart::Statements(Chain::new(alloc))),
         SwitchAction::Break => Ok(StatementPart::Leave(break_leave(parts.leaf()))),
         SwitchAction::Return => Ok(StatementPart::Leave(return_leave(
             parts.leaf(),
-            parts.optional_expression(),
+            parts.expression_part().optional_expression(),
         ))),
         SwitchAction::PrefixStep => Ok(StatementPart::Simple(prefix_step(
-            parts.step_sign(),
-            parts.operand(),
+            parts.expression_part().step_sign(),
+            parts.expression_part().operand(),
         ))),
         SwitchAction::Simple => Ok(StatementPart::Simple(simple(
-            parts.operand(),
-            parts.simple_rest(),
+            parts.expression_part().operand(),
+            parts.statement_part().simple_rest(),
         ))),
         SwitchAction::Assignment => Ok(StatementPart::SimpleRest(assignment(
-            parts.assignment_sign(),
-            parts.operand(),
+            parts.expression_part().assignment_sign(),
+            parts.expression_part().operand(),
         ))),
         SwitchAction::PostfixStep(step) => Ok(StatementPart::SimpleRest(postfix_step(
             parts.leaf(),

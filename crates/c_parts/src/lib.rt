@@ -1,18 +1,16 @@
 //! The parts of which the tree of a C text is made.
+//!
+//! The groups of parts have their drops written out: a derived one is unfolded, and proved anew, wherever a part is dropped.
 #![tactic(auto)]
 
 mod chain;
 mod declaration_part;
-mod declaration_parts;
 mod expression_part;
-mod expression_parts;
 mod external_part;
-mod external_parts;
 mod leaf;
 mod part;
 mod parts;
 mod statement_part;
-mod statement_parts;
 
 pub use chain::Chain;
 pub use declaration_part::{DeclarationPart, Enumeration, Objects, Structure};

@@ -1,11 +1,16 @@
 ghost use Rattle.std.specs.Prelude.{◌≡◌, [], ◌∷◌, OnOk};
 ghost use Rattle.c_parts.specs.Kinds;
-ghost use Rattle.c_parts.specs.PartViews.{part_view, parts_view, leaf_view};
+ghost use Rattle.c_parts.specs.PartData;
+ghost use Rattle.c_parts.specs.PartViews.{part_view, parts_view, leaf_view, expression_part_view, declaration_part_view, external_part_view, statement_part_view};
 ghost use Rattle.c_parts.specs.Reading.{first, rest, kind_of, leaf_of};
 
 use crate::chain::Chain;
+use crate::declaration_part::DeclarationPart;
+use crate::expression_part::ExpressionPart;
+use crate::external_part::ExternalPart;
 use crate::leaf::Leaf;
 use crate::part::Part;
+use crate::statement_part::StatementPart;
 use misra_base::Place;
 use std::alloc::{AllocError, Global};
 
@@ -40,7 +45,7 @@ impl<'a> Parts<'a> {
     }
 
     /// Takes the first part: a token without text where there is none.
-    pub(crate) fn next(&mut self) -> Part<'a>
+    fn next(&mut self) -> Part<'a>
         ensures part { part_view result ≡ first (parts_view self.old) }
         ensures rest { parts_view self.new ≡ rest (parts_view self.old) }
     {
@@ -61,6 +66,54 @@ impl<'a> Parts<'a> {
     {
         match self.next() {
             Part::Leaf(leaf) => leaf,
+            _ => unreachable!(),
+        }
+    }
+
+    /// Takes the first part: an expression or what stands in one.
+    pub fn expression_part(&mut self) -> ExpressionPart
+        requires { Kinds.IsExpression (kind_of (first (parts_view self.now))) }
+        ensures part { PartData.expression_part (expression_part_view result) ≡ first (parts_view self.old) }
+        ensures rest { parts_view self.new ≡ rest (parts_view self.old) }
+    {
+        match self.next() {
+            Part::Expression(part) => part,
+            _ => unreachable!(),
+        }
+    }
+
+    /// Takes the first part: of a declaration.
+    pub fn declaration_part(&mut self) -> DeclarationPart
+        requires { Kinds.IsDeclaration (kind_of (first (parts_view self.now))) }
+        ensures part { PartData.declaration_part (declaration_part_view result) ≡ first (parts_view self.old) }
+        ensures rest { parts_view self.new ≡ rest (parts_view self.old) }
+    {
+        match self.next() {
+            Part::Declaration(part) => part,
+            _ => unreachable!(),
+        }
+    }
+
+    /// Takes the first part: of an external declaration.
+    pub fn external_part(&mut self) -> ExternalPart
+        requires { Kinds.IsExternal (kind_of (first (parts_view self.now))) }
+        ensures part { PartData.external_part (external_part_view result) ≡ first (parts_view self.old) }
+        ensures rest { parts_view self.new ≡ rest (parts_view self.old) }
+    {
+        match self.next() {
+            Part::External(part) => part,
+            _ => unreachable!(),
+        }
+    }
+
+    /// Takes the first part: of a statement.
+    pub fn statement_part(&mut self) -> StatementPart
+        requires { Kinds.IsStatement (kind_of (first (parts_view self.now))) }
+        ensures part { PartData.statement_part (statement_part_view result) ≡ first (parts_view self.old) }
+        ensures rest { parts_view self.new ≡ rest (parts_view self.old) }
+    {
+        match self.next() {
+            Part::Statement(part) => part,
             _ => unreachable!(),
         }
     }

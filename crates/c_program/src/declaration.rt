@@ -2,13 +2,21 @@ use crate::expression::{Bound, Declarator, Expression, Pointer, Specifier, Word}
 use misra_base::Place;
 
 /// What an object begins with (C11 6.7.9).
-#[derive(Debug, Drop)]
+#[derive(Debug)]
 pub enum Initializer {
     Expression(Expression),
     List {
         place: Place,
         items: Vec<Initializer>,
     },
+}
+
+impl Drop for Initializer {
+    fn drop(self) {
+        match self {
+            Initializer::Expression(_) | Initializer::List { place: _, items: _ } => {}
+        }
+    }
 }
 
 /// `= initializer`.
@@ -34,7 +42,7 @@ pub struct Declaration {
 }
 
 /// A parameter of a function (C11 6.7.6.3). An array of them is a pointer.
-#[derive(Debug, Drop)]
+#[derive(Debug)]
 pub struct Parameter {
     pub specifiers: Vec<Specifier>,
     pub pointers: Vec<Pointer>,
@@ -42,11 +50,33 @@ pub struct Parameter {
     pub bound: Option<Bound>,
 }
 
+impl Drop for Parameter {
+    fn drop(self) {
+        let Parameter {
+            specifiers: _,
+            pointers: _,
+            name: _,
+            bound: _,
+        } = self;
+    }
+}
+
 /// A name that `typedef` declares (C11 6.7.8).
-#[derive(Debug, Drop)]
+#[derive(Debug)]
 pub struct TypeDefinition {
     pub place: Place,
     pub specifiers: Vec<Specifier>,
     pub pointers: Vec<Pointer>,
     pub name: Word,
+}
+
+impl Drop for TypeDefinition {
+    fn drop(self) {
+        let TypeDefinition {
+            place: _,
+            specifiers: _,
+            pointers: _,
+            name: _,
+        } = self;
+    }
 }

@@ -78,7 +78,7 @@ pub struct Pointer {
 /// An expression (C11 6.5). Brackets round an expression are gone, and operators of one precedence that
 /// follow each other are one list.
 #[cycle(expression)]
-#[derive(Debug, Drop)]
+#[derive(Debug)]
 pub enum Expression {
     Identifier(Word),
     /// A number or a character.
@@ -118,6 +118,45 @@ pub enum Expression {
     },
 }
 
+impl Drop for Expression {
+    #[cycle(expression)]
+    fn drop(self) {
+        match self {
+            Expression::Identifier(_)
+            | Expression::Constant(_)
+            | Expression::Binary { first: _, rest: _ }
+            | Expression::Conditional {
+                condition: _,
+                question: _,
+                then: _,
+                otherwise: _,
+            }
+            | Expression::Unary {
+                place: _,
+                operator: _,
+                operand: _,
+            }
+            | Expression::SizeofExpression {
+                place: _,
+                operand: _,
+            }
+            | Expression::SizeofType {
+                place: _,
+                type_name: _,
+            }
+            | Expression::Cast {
+                place: _,
+                type_name: _,
+                operand: _,
+            }
+            | Expression::Postfix {
+                operand: _,
+                postfixes: _,
+            } => {}
+        }
+    }
+}
+
 /// An operator and its right operand.
 #[cycle(expression)]
 #[derive(Debug, Drop)]
@@ -129,7 +168,7 @@ pub struct Operation {
 
 /// What stands behind an operand (C11 6.5.2).
 #[cycle(expression)]
-#[derive(Debug, Drop)]
+#[derive(Debug)]
 pub enum Postfix {
     Index {
         place: Place,
@@ -149,6 +188,27 @@ pub enum Postfix {
     },
 }
 
+impl Drop for Postfix {
+    #[cycle(expression)]
+    fn drop(self) {
+        match self {
+            Postfix::Index { place: _, index: _ }
+            | Postfix::Call {
+                place: _,
+                arguments: _,
+            }
+            | Postfix::Member {
+                place: _,
+                member: _,
+            }
+            | Postfix::Arrow {
+                place: _,
+                member: _,
+            } => {}
+        }
+    }
+}
+
 /// A type name (C11 6.7.7).
 #[cycle(expression)]
 #[derive(Debug, Drop)]
@@ -159,7 +219,7 @@ pub struct TypeName {
 
 /// A declaration specifier (C11 6.7).
 #[cycle(expression)]
-#[derive(Debug, Drop)]
+#[derive(Debug)]
 pub enum Specifier {
     Keyword {
         place: Place,
@@ -193,6 +253,32 @@ pub enum Specifier {
     },
 }
 
+impl Drop for Specifier {
+    #[cycle(expression)]
+    fn drop(self) {
+        match self {
+            Specifier::Keyword {
+                place: _,
+                keyword: _,
+            }
+            | Specifier::LibraryType(_)
+            | Specifier::TypedefName(_)
+            | Specifier::StructReference { place: _, tag: _ }
+            | Specifier::StructDeclaration {
+                place: _,
+                tag: _,
+                members: _,
+            }
+            | Specifier::EnumReference { place: _, tag: _ }
+            | Specifier::EnumDeclaration {
+                place: _,
+                tag: _,
+                enumerators: _,
+            } => {}
+        }
+    }
+}
+
 /// Members of one type (C11 6.7.2.1).
 #[cycle(expression)]
 #[derive(Debug, Drop)]
@@ -203,11 +289,22 @@ pub struct MemberDeclaration {
 
 /// A name with what stands round it (C11 6.7.6).
 #[cycle(expression)]
-#[derive(Debug, Drop)]
+#[derive(Debug)]
 pub struct Declarator {
     pub pointers: Vec<Pointer>,
     pub name: Word,
     pub bounds: Vec<Bound>,
+}
+
+impl Drop for Declarator {
+    #[cycle(expression)]
+    fn drop(self) {
+        let Declarator {
+            pointers: _,
+            name: _,
+            bounds: _,
+        } = self;
+    }
 }
 
 /// `[ size ]` of an array (C11 6.7.6.2).

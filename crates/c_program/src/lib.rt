@@ -1,4 +1,6 @@
 //! The tree of a C text.
+//!
+//! The larger types have their drops written out: a derived one is unfolded, and proved anew, wherever a value is dropped.
 #![tactic(auto)]
 
 mod declaration;

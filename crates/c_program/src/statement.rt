@@ -26,7 +26,7 @@ pub enum Step {
 }
 
 /// An expression that stands as a statement (C11 6.8.3).
-#[derive(Debug, Drop)]
+#[derive(Debug)]
 pub enum Simple {
     Expression(Expression),
     Assignment {
@@ -49,6 +49,31 @@ pub enum Simple {
     },
 }
 
+impl Drop for Simple {
+    fn drop(self) {
+        match self {
+            Simple::Expression(_)
+            | Simple::Assignment {
+                target: _,
+                place: _,
+                operator: _,
+                value: _,
+            }
+            | Simple::Prefix {
+                place: _,
+                step: _,
+                operand: _,
+            }
+            | Simple::Postfix {
+                operand: _,
+                bracketed: _,
+                place: _,
+                step: _,
+            } => {}
+        }
+    }
+}
+
 /// What leaves a loop, a `switch` or a function (C11 6.8.6).
 #[derive(Debug, Drop)]
 pub enum Leave {
@@ -62,7 +87,7 @@ pub enum Leave {
 }
 
 /// What a `for` begins with (C11 6.8.5.3).
-#[derive(Debug, Drop)]
+#[derive(Debug)]
 pub enum ForStart {
     Declaration {
         specifiers: Vec<Specifier>,
@@ -74,6 +99,21 @@ pub enum ForStart {
     Simple(Simple),
 }
 
+impl Drop for ForStart {
+    fn drop(self) {
+        match self {
+            ForStart::Declaration {
+                specifiers: _,
+                pointers: _,
+                name: _,
+                place: _,
+                value: _,
+            }
+            | ForStart::Simple(_) => {}
+        }
+    }
+}
+
 /// `case` with its constant (C11 6.8.1).
 #[derive(Debug, Drop)]
 pub struct CaseLabel {
@@ -83,24 +123,40 @@ pub struct CaseLabel {
 
 /// A compound statement (C11 6.8.2).
 #[cycle(statement)]
-#[derive(Debug, Drop)]
+#[derive(Debug)]
 pub struct Block {
     pub place: Place,
     pub items: Vec<Item>,
 }
 
+impl Drop for Block {
+    #[cycle(statement)]
+    fn drop(self) {
+        let Block { place: _, items: _ } = self;
+    }
+}
+
 /// What stands in a block.
 #[cycle(statement)]
-#[derive(Debug, Drop)]
+#[derive(Debug)]
 pub enum Item {
     Declaration(Declaration),
     Statement(Statement),
     Leave(Leave),
 }
 
+impl Drop for Item {
+    #[cycle(statement)]
+    fn drop(self) {
+        match self {
+            Item::Declaration(_) | Item::Statement(_) | Item::Leave(_) => {}
+        }
+    }
+}
+
 /// A statement (C11 6.8).
 #[cycle(statement)]
-#[derive(Debug, Drop)]
+#[derive(Debug)]
 pub enum Statement {
     Block(Block),
     If(If),
@@ -137,14 +193,62 @@ pub enum Statement {
     },
 }
 
+impl Drop for Statement {
+    #[cycle(statement)]
+    fn drop(self) {
+        match self {
+            Statement::Block(_)
+            | Statement::If(_)
+            | Statement::While {
+                place: _,
+                condition: _,
+                body: _,
+            }
+            | Statement::DoWhile {
+                body: _,
+                place: _,
+                condition: _,
+            }
+            | Statement::For {
+                place: _,
+                start: _,
+                condition: _,
+                step: _,
+                body: _,
+            }
+            | Statement::Switch {
+                place: _,
+                subject: _,
+                clauses: _,
+                default: _,
+            }
+            | Statement::Continue { place: _ }
+            | Statement::Simple(_)
+            | Statement::Empty { place: _ } => {}
+        }
+    }
+}
+
 /// An `if` statement (C11 6.8.4.1).
 #[cycle(statement)]
-#[derive(Debug, Drop)]
+#[derive(Debug)]
 pub struct If {
     pub place: Place,
     pub condition: Expression,
     pub then: Block,
     pub otherwise: Option<Otherwise>,
+}
+
+impl Drop for If {
+    #[cycle(statement)]
+    fn drop(self) {
+        let If {
+            place: _,
+            condition: _,
+            then: _,
+            otherwise: _,
+        } = self;
+    }
 }
 
 /// What stands behind `else`.
@@ -165,8 +269,18 @@ pub struct Clause {
 
 /// The statements behind labels, up to what leaves the `switch`.
 #[cycle(statement)]
-#[derive(Debug, Drop)]
+#[derive(Debug)]
 pub struct Body {
     pub statements: Vec<Statement>,
     pub leave: Leave,
+}
+
+impl Drop for Body {
+    #[cycle(statement)]
+    fn drop(self) {
+        let Body {
+            statements: _,
+            leave: _,
+        } = self;
+    }
 }

@@ -3,7 +3,7 @@ use crate::expression::{Pointer, Specifier, Word};
 use crate::statement::Block;
 
 /// A function, with its body where it is defined (C11 6.9.1).
-#[derive(Debug, Drop)]
+#[derive(Debug)]
 pub struct Function {
     pub specifiers: Vec<Specifier>,
     pub pointers: Vec<Pointer>,
@@ -12,16 +12,42 @@ pub struct Function {
     pub body: Option<Block>,
 }
 
+impl Drop for Function {
+    fn drop(self) {
+        let Function {
+            specifiers: _,
+            pointers: _,
+            name: _,
+            parameters: _,
+            body: _,
+        } = self;
+    }
+}
+
 /// An external declaration (C11 6.9).
-#[derive(Debug, Drop)]
+#[derive(Debug)]
 pub enum External {
     TypeDefinition(TypeDefinition),
     Declaration(Declaration),
     Function(Function),
 }
 
+impl Drop for External {
+    fn drop(self) {
+        match self {
+            External::TypeDefinition(_) | External::Declaration(_) | External::Function(_) => {}
+        }
+    }
+}
+
 /// A translation unit (C11 6.9).
-#[derive(Debug, Drop)]
+#[derive(Debug)]
 pub struct Tree {
     pub externals: Vec<External>,
+}
+
+impl Drop for Tree {
+    fn drop(self) {
+        let Tree { externals: _ } = self;
+    }
 }

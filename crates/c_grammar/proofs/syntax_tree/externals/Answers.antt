@@ -8,5 +8,5 @@ pub returns : goal.returns
 returns c = record {
   part = part_view c.in_ok-built.field-0;
   made = c.in_ok-built.ensures.part;
-  is = ap (map external_view) c.into_vec.ensures ∙ c.externals.ensures.result ∙ ap (λ ps. externals_of (first ps)) c.in_ok-put_front.ensures;
+  is = ap (map external_view) c.into_vec.ensures ∙ c.externals.ensures ∙ ap externals_of c.external_part.ensures.part ∙ ap (λ ps. externals_of (first ps)) c.in_ok-put_front.ensures;
 }
