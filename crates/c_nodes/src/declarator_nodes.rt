@@ -3,7 +3,7 @@ ghost use Rattle.std.specs.Option.{option_map};
 ghost use Rattle.c_program.specs.Expressions;
 ghost use Rattle.c_program.specs.Statements;
 ghost use Rattle.c_program.specs.Views;
-ghost use Rattle.c_program.specs.Views.{pointers_view, expression_view, declarator_view, bound_view};
+ghost use Rattle.c_program.specs.Views.{pointers_view, boxed_view, declarator_view, bound_view};
 ghost use Rattle.c_program.specs.StatementViews;
 ghost use Rattle.c_program.specs.StatementViews.{initializer_view, initialization_view, init_declarator_view};
 ghost use Rattle.c_parts.specs.PartData;
@@ -192,11 +192,11 @@ fn pointer(
 
 fn bound(
     _: Leaf,
-    size: Option<Expression>,
+    size: Option<Box<Expression>>,
     close: Leaf,
     mut bounds: Chain<Bound>,
 ) -> Result<DeclarationPart, AllocError>
-    ensures { IfOk result (λ part. declaration_part_view part ≡ PartData.bounds ((Expressions.bound (Views.maybe_of (option_map expression_view size)) (leaf_view close.entry).place) ∷ (map bound_view bounds))) }
+    ensures { IfOk result (λ part. declaration_part_view part ≡ PartData.bounds ((Expressions.bound (Views.maybe_of (option_map boxed_view size)) (leaf_view close.entry).place) ∷ (map bound_view bounds))) }
 {
     bounds.put_front(Bound {
         size,

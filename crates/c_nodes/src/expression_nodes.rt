@@ -3,12 +3,12 @@ ghost use Rattle.c_program.specs.Expressions;
 ghost use Rattle.c_program.specs.Views;
 ghost use Rattle.c_program.specs.Views.{pointers_view, operation_view, type_name_view, specifier_view};
 ghost use Rattle.c_parts.specs.PartData;
-ghost use Rattle.c_parts.specs.PartViews.{leaf_view, operand_view, sizeof_operand_view, bracketed_view, expression_part_view, parts_view};
+ghost use Rattle.c_parts.specs.PartViews.{leaf_view, operand_view, branches_view, sizeof_operand_view, bracketed_view, expression_part_view, parts_view};
 ghost use Rattle.c_parts.specs.Reading.{Fits};
 ghost use Rattle.c_nodes.specs.OperandNodes.{plain};
 ghost use Rattle.c_nodes.specs.ExpressionNodes.{kinds, sizeof, behind_bracket, node};
 
-use crate::operand_nodes::operand;
+use crate::operand_nodes::plain;
 use crate::postfix_nodes::{argument, arrow, call, group, index, member, postfixes};
 use c_parts::{
     AssignmentSign, Bracketed, Branches, Chain, ExpressionPart, InfixOperator, Leaf, Operand,
@@ -106,13 +106,12 @@ pub(crate) fn expression_node(
             parts.expression_part().operand(),
             parts.expression_part().operations(),
         ),
-        ExpressionAction::Branches => branches(
-            alloc,
+        ExpressionAction::Branches => Ok(ExpressionPart::Branches(Some(branches(
             parts.leaf(),
             parts.expression_part().operand(),
             parts.leaf(),
             parts.expression_part().operand(),
-        ),
+        )))),
         ExpressionAction::Unary => unary(
             alloc,
             parts.expression_part().prefix_operator(),
@@ -130,16 +129,16 @@ pub(crate) fn expression_node(
         ExpressionAction::SizeofExpression => Ok(ExpressionPart::SizeofOperand(
             SizeofOperand::Expression(parts.expression_part().operand().expression),
         )),
-        ExpressionAction::Bracket => Ok(ExpressionPart::Operand(behind_bracket(
+        ExpressionAction::Bracket => behind_bracket(
+            alloc,
             parts.leaf(),
             parts.expression_part().bracketed(),
-        ))),
-        ExpressionAction::Cast => cast(
-            alloc,
+        ),
+        ExpressionAction::Cast => Ok(ExpressionPart::Bracketed(cast(
             parts.expression_part().type_name(),
             parts.leaf(),
             parts.expression_part().operand(),
-        ),
+        ))),
         ExpressionAction::Group => group(
             alloc,
             parts.expression_part().operand(),
@@ -233,11 +232,14 @@ fn signed_operation(
 fn unary(alloc: Global, sign: PrefixOperator, right: Operand) -> Result<ExpressionPart, AllocError>
     ensures { IfOk result (λ part. expression_part_view part ≡ PartData.operand (plain (Expressions.unary sign.place sign.operator (operand_view right).expression))) }
 {
-    Ok(ExpressionPart::Operand(operand(Expression::Unary {
-        place: sign.place,
-        operator: sign.operator,
-        operand: Box::new(alloc, right.expression)?,
-    })))
+    plain(
+        alloc,
+        Expression::Unary {
+            place: sign.place,
+            operator: sign.operator,
+            operand: right.expression,
+        },
+    )
 }
 
 fn type_name(specifiers: Chain<Specifier>, pointers: Chain<Pointer>) -> TypeName
@@ -249,20 +251,14 @@ fn type_name(specifiers: Chain<Specifier>, pointers: Chain<Pointer>) -> TypeName
     }
 }
 
-fn branches(
-    alloc: Global,
-    question: Leaf,
-    then: Operand,
-    _: Leaf,
-    otherwise: Operand,
-) -> Result<ExpressionPart, AllocError>
-    ensures { IfOk result (λ part. expression_part_view part ≡ PartData.branches (Some (record { question = (leaf_view question.entry).place; then = (operand_view then).expression; otherwise = (operand_view otherwise).expression }))) }
+fn branches(question: Leaf, then: Operand, _: Leaf, otherwise: Operand) -> Branches
+    ensures { branches_view result ≡ record { question = (leaf_view question.entry).place; then = (operand_view then).expression; otherwise = (operand_view otherwise).expression } }
 {
-    Ok(ExpressionPart::Branches(Some(Branches {
+    Branches {
         question: question.place,
-        then: Box::new(alloc, then.expression)?,
-        otherwise: Box::new(alloc, otherwise.expression)?,
-    })))
+        then: then.expression,
+        otherwise: otherwise.expression,
+    }
 }
 
 /// `sizeof` of an expression or of a type.
@@ -274,46 +270,41 @@ fn sizeof_operand(
 ) -> Result<ExpressionPart, AllocError>
     ensures { IfOk result (λ part. expression_part_view part ≡ PartData.operand (plain (sizeof (leaf_view keyword.entry).place (sizeof_operand_view of)))) }
 {
-    let expression = match of {
-        SizeofOperand::Type(type_name) => Expression::SizeofType {
-            place: keyword.place,
-            type_name,
-        },
-        SizeofOperand::Expression(expression) => Expression::SizeofExpression {
-            place: keyword.place,
-            operand: Box::new(alloc, expression)?,
-        },
-    };
-    Ok(ExpressionPart::Operand(operand(expression)))
-}
-
-/// A cast, whose place is that of its bracket, or an expression in brackets.
-fn behind_bracket(bracket: Leaf, bracketed: Bracketed) -> Operand
-    ensures { operand_view result ≡ behind_bracket (leaf_view bracket.entry).place (bracketed_view bracketed) }
-{
-    match bracketed {
-        Bracketed::Operand(inner) => inner,
-        Bracketed::Cast {
-            type_name,
-            operand: right,
-        } => operand(Expression::Cast {
-            place: bracket.place,
-            type_name,
-            operand: right,
-        }),
+    let place = keyword.place;
+    match of {
+        SizeofOperand::Type(type_name) => plain(alloc, Expression::SizeofType { place, type_name }),
+        SizeofOperand::Expression(operand) => {
+            plain(alloc, Expression::SizeofExpression { place, operand })
+        }
     }
 }
 
-fn cast(
+/// A cast, whose place is that of its bracket, or an expression in brackets.
+fn behind_bracket(
     alloc: Global,
-    type_name: TypeName,
-    _: Leaf,
-    right: Operand,
+    bracket: Leaf,
+    bracketed: Bracketed,
 ) -> Result<ExpressionPart, AllocError>
-    ensures { IfOk result (λ part. expression_part_view part ≡ PartData.bracketed (PartData.bracketed_cast (type_name_view type_name) (operand_view right).expression)) }
+    ensures { IfOk result (λ part. expression_part_view part ≡ PartData.operand (behind_bracket (leaf_view bracket.entry).place (bracketed_view bracketed))) }
 {
-    Ok(ExpressionPart::Bracketed(Bracketed::Cast {
+    match bracketed {
+        Bracketed::Operand(inner) => Ok(ExpressionPart::Operand(inner)),
+        Bracketed::Cast { type_name, operand } => plain(
+            alloc,
+            Expression::Cast {
+                place: bracket.place,
+                type_name,
+                operand,
+            },
+        ),
+    }
+}
+
+fn cast(type_name: TypeName, _: Leaf, right: Operand) -> Bracketed
+    ensures { bracketed_view result ≡ PartData.bracketed_cast (type_name_view type_name) (operand_view right).expression }
+{
+    Bracketed::Cast {
         type_name,
-        operand: Box::new(alloc, right.expression)?,
-    }))
+        operand: right.expression,
+    }
 }

@@ -3,7 +3,7 @@ ghost use Rattle.std.specs.Option.{option_map};
 ghost use Rattle.c_program.specs.Expressions;
 ghost use Rattle.c_program.specs.Statements;
 ghost use Rattle.c_program.specs.Views;
-ghost use Rattle.c_program.specs.Views.{pointers_view, expression_view, specifier_view, bound_view};
+ghost use Rattle.c_program.specs.Views.{pointers_view, boxed_view, specifier_view, bound_view};
 ghost use Rattle.c_program.specs.StatementViews.{block_view, parameter_view, external_view};
 ghost use Rattle.c_parts.specs.PartData;
 ghost use Rattle.c_parts.specs.PartViews.{leaf_view, parameter_name_view, name_rest_view, external_rest_view, external_part_view, parts_view};
@@ -232,8 +232,8 @@ fn parameter_name(
     }))
 }
 
-fn parameter_bound(_: Leaf, size: Option<Expression>, close: Leaf) -> Option<Bound>
-    ensures { option_map bound_view result ≡ Some (Expressions.bound (Views.maybe_of (option_map expression_view size)) (leaf_view close.entry).place) }
+fn parameter_bound(_: Leaf, size: Option<Box<Expression>>, close: Leaf) -> Option<Bound>
+    ensures { option_map bound_view result ≡ Some (Expressions.bound (Views.maybe_of (option_map boxed_view size)) (leaf_view close.entry).place) }
 {
     Some(Bound {
         size,

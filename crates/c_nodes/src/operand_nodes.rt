@@ -69,13 +69,13 @@ pub(crate) fn operand_node(
 fn identifier(alloc: Global, name: Leaf) -> Result<ExpressionPart, AllocError>
     ensures { IfOk result (λ part. expression_part_view part ≡ PartData.operand (plain (Expressions.identifier (leaf_view name.entry)))) }
 {
-    Ok(ExpressionPart::Operand(operand(Expression::Identifier(name.word(alloc)?))))
+    plain(alloc, Expression::Identifier(name.word(alloc)?))
 }
 
 fn constant(alloc: Global, literal: Leaf) -> Result<ExpressionPart, AllocError>
     ensures { IfOk result (λ part. expression_part_view part ≡ PartData.operand (plain (Expressions.constant (leaf_view literal.entry)))) }
 {
-    Ok(ExpressionPart::Operand(operand(Expression::Constant(literal.word(alloc)?))))
+    plain(alloc, Expression::Constant(literal.word(alloc)?))
 }
 
 /// An operand with operations behind it, or itself where there are none.
@@ -89,10 +89,13 @@ fn binary_operand(
     if operations.is_empty() {
         return Ok(ExpressionPart::Operand(first));
     }
-    Ok(ExpressionPart::Operand(operand(Expression::Binary {
-        first: Box::new(alloc, first.expression)?,
-        rest: operations.into_vec(),
-    })))
+    plain(
+        alloc,
+        Expression::Binary {
+            first: first.expression,
+            rest: operations.into_vec(),
+        },
+    )
 }
 
 /// A condition with its branches, or itself where there are none.
@@ -105,23 +108,33 @@ fn conditional_operand(
 {
     match branches {
         None => Ok(ExpressionPart::Operand(condition)),
-        Some(branches) => Ok(ExpressionPart::Operand(operand(Expression::Conditional {
-            condition: Box::new(alloc, condition.expression)?,
-            question: branches.question,
-            then: branches.then,
-            otherwise: branches.otherwise,
-        }))),
+        Some(branches) => plain(
+            alloc,
+            Expression::Conditional {
+                condition: condition.expression,
+                question: branches.question,
+                then: branches.then,
+                otherwise: branches.otherwise,
+            },
+        ),
     }
 }
 
-/// An expression that is not in brackets.
-pub(crate) fn operand(expression: Expression) -> Operand
-    ensures { operand_view result ≡ plain (expression_view expression) }
+/// An expression that is not in brackets, as a part.
+pub(crate) fn plain(alloc: Global, expression: Expression) -> Result<ExpressionPart, AllocError>
+    ensures { IfOk result (λ part. expression_part_view part ≡ PartData.operand (plain (expression_view expression))) }
 {
-    Operand {
-        expression,
+    Ok(ExpressionPart::Operand(operand(alloc, expression)?))
+}
+
+/// An expression that is not in brackets.
+fn operand(alloc: Global, expression: Expression) -> Result<Operand, AllocError>
+    ensures { IfOk result (λ o. operand_view o ≡ plain (expression_view expression)) }
+{
+    Ok(Operand {
+        expression: Box::new(alloc, expression)?,
         bracketed: false,
-    }
+    })
 }
 
 fn postfixed_operand(
@@ -145,8 +158,11 @@ pub(crate) fn postfixed(
     if postfixes.is_empty() {
         return Ok(inner);
     }
-    Ok(operand(Expression::Postfix {
-        operand: Box::new(alloc, inner.expression)?,
-        postfixes: postfixes.into_vec(),
-    }))
+    operand(
+        alloc,
+        Expression::Postfix {
+            operand: inner.expression,
+            postfixes: postfixes.into_vec(),
+        },
+    )
 }

@@ -61,7 +61,7 @@ pub(crate) fn argument(
 ) -> Result<ExpressionPart, AllocError>
     ensures { IfOk result (λ part. expression_part_view part ≡ PartData.arguments (((operand_view argument).expression) ∷ (map expression_view arguments))) }
 {
-    arguments.put_front(argument.expression)?;
+    arguments.put_front(Box::into_inner(argument.expression))?;
     Ok(ExpressionPart::Arguments(arguments))
 }
 

@@ -2,7 +2,7 @@ ghost use Rattle.std.specs.Prelude.{◌≡◌, ◌∷◌, map, IfOk};
 ghost use Rattle.std.specs.Option.{option_map};
 ghost use Rattle.c_program.specs.Expressions;
 ghost use Rattle.c_program.specs.Views;
-ghost use Rattle.c_program.specs.Views.{expression_view, member_view, enumerator_view, specifier_view, declarator_view};
+ghost use Rattle.c_program.specs.Views.{boxed_view, member_view, enumerator_view, specifier_view, declarator_view};
 ghost use Rattle.c_parts.specs.PartData;
 ghost use Rattle.c_parts.specs.PartViews.{leaf_view, structure_view, enumeration_view, declaration_part_view, parts_view};
 ghost use Rattle.c_parts.specs.Reading.{Fits};
@@ -261,10 +261,10 @@ fn enumerators_in_braces(
     alloc: Global,
     _: Leaf,
     name: Leaf,
-    value: Option<Expression>,
+    value: Option<Box<Expression>>,
     mut enumerators: Chain<Enumerator>,
 ) -> Result<DeclarationPart, AllocError>
-    ensures { IfOk result (λ part. declaration_part_view part ≡ PartData.enumerators ((record { name = (leaf_view name.entry); value = Views.maybe_of (option_map expression_view value) }) ∷ (map enumerator_view enumerators))) }
+    ensures { IfOk result (λ part. declaration_part_view part ≡ PartData.enumerators ((record { name = (leaf_view name.entry); value = Views.maybe_of (option_map boxed_view value) }) ∷ (map enumerator_view enumerators))) }
 {
     enumerators.put_front(Enumerator {
         name: name.word(alloc)?,
@@ -276,10 +276,10 @@ fn enumerators_in_braces(
 fn enumerator(
     alloc: Global,
     name: Leaf,
-    value: Option<Expression>,
+    value: Option<Box<Expression>>,
     mut enumerators: Chain<Enumerator>,
 ) -> Result<DeclarationPart, AllocError>
-    ensures { IfOk result (λ part. declaration_part_view part ≡ PartData.enumerators ((record { name = (leaf_view name.entry); value = Views.maybe_of (option_map expression_view value) }) ∷ (map enumerator_view enumerators))) }
+    ensures { IfOk result (λ part. declaration_part_view part ≡ PartData.enumerators ((record { name = (leaf_view name.entry); value = Views.maybe_of (option_map boxed_view value) }) ∷ (map enumerator_view enumerators))) }
 {
     enumerators.put_front(Enumerator {
         name: name.word(alloc)?,

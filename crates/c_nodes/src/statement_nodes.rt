@@ -2,7 +2,7 @@ ghost use Rattle.std.specs.Prelude.{◌≡◌, ◌∷◌, map, IfOk};
 ghost use Rattle.std.specs.Option.{option_map};
 ghost use Rattle.c_program.specs.Statements;
 ghost use Rattle.c_program.specs.Views;
-ghost use Rattle.c_program.specs.Views.{pointers_view, expression_view, specifier_view};
+ghost use Rattle.c_program.specs.Views.{pointers_view, boxed_view, specifier_view};
 ghost use Rattle.c_program.specs.StatementViews;
 ghost use Rattle.c_program.specs.StatementViews.{declaration_view, init_declarator_view, simple_view, for_start_view, statement_view, block_view, item_view, otherwise_view, body_view, clause_view, if_view};
 ghost use Rattle.c_parts.specs.PartData;
@@ -264,13 +264,13 @@ fn for_statement(
     _: Leaf,
     start: Option<ForStart>,
     _: Leaf,
-    condition: Option<Expression>,
+    condition: Option<Box<Expression>>,
     _: Leaf,
     step: Option<Simple>,
     _: Leaf,
     body: Block,
 ) -> Statement
-    ensures { statement_view result ≡ Statements.for_statement (leaf_view keyword.entry).place (option_map for_start_view start) (option_map expression_view condition) (option_map simple_view step) (block_view body) }
+    ensures { statement_view result ≡ Statements.for_statement (leaf_view keyword.entry).place (option_map for_start_view start) (option_map boxed_view condition) (option_map simple_view step) (block_view body) }
 {
     Statement::For {
         place: keyword.place,

@@ -1,7 +1,7 @@
 ghost use Rattle.std.specs.Prelude.{◌≡◌, ◌∷◌, map, IfOk, Some};
 ghost use Rattle.std.specs.Option.{option_map};
 ghost use Rattle.c_program.specs.Statements;
-ghost use Rattle.c_program.specs.Views.{expression_view};
+ghost use Rattle.c_program.specs.Views.{boxed_view};
 ghost use Rattle.c_program.specs.StatementViews;
 ghost use Rattle.c_program.specs.StatementViews.{simple_view, leave_view, case_label_view, statement_view, body_view, clause_view};
 ghost use Rattle.c_parts.specs.PartData;
@@ -183,8 +183,8 @@ fn break_leave(keyword: Leaf) -> Leave
     }
 }
 
-fn return_leave(keyword: Leaf, value: Option<Expression>) -> Leave
-    ensures { leave_view result ≡ Statements.returns (leaf_view keyword.entry).place (option_map expression_view value) }
+fn return_leave(keyword: Leaf, value: Option<Box<Expression>>) -> Leave
+    ensures { leave_view result ≡ Statements.returns (leaf_view keyword.entry).place (option_map boxed_view value) }
 {
     Leave::Return {
         place: keyword.place,

@@ -3,7 +3,7 @@ use Rattle.std.specs.Prelude.{List, map, Option}
 use Rattle.std.specs.Option.{option_map}
 use Rattle.c_program.specs.declared.expression.Word.{Word}
 use Rattle.c_program.specs.Expressions
-use Rattle.c_program.specs.Views.{expression_view, operation_view, postfix_view, type_name_view, specifier_view, pointers_view, bound_view, declarator_view, member_view, enumerator_view}
+use Rattle.c_program.specs.Views.{boxed_view, expression_view, operation_view, postfix_view, type_name_view, specifier_view, pointers_view, bound_view, declarator_view, member_view, enumerator_view}
 use Rattle.c_program.specs.StatementViews.{initializer_view, initialization_view, init_declarator_view, parameter_view, block_view, item_view, statement_view, if_view, otherwise_view, for_start_view, simple_view, case_label_view, clause_view, body_view, leave_view, external_view}
 use Rattle.c_parts.specs.PartData
 use Rattle.c_parts.specs.declared.leaf.Leaf.{Leaf}
@@ -42,17 +42,17 @@ abbrev pub leaf_view : Leaf → Word
 leaf_view l = record { place = l.place; text = l.text.now }
 
 abbrev pub operand_view : Operand → PartData.OperandData
-operand_view o = record { expression = expression_view o.expression; bracketed = o.bracketed }
+operand_view o = record { expression = boxed_view o.expression; bracketed = o.bracketed }
 
 abbrev pub branches_view : Branches → PartData.BranchesData
-branches_view b = record { question = b.question; then = expression_view b.then.value; otherwise = expression_view b.otherwise.value }
+branches_view b = record { question = b.question; then = boxed_view b.then; otherwise = boxed_view b.otherwise }
 
 abbrev pub sizeof_operand_view : SizeofOperand → PartData.SizeofOperandData
 sizeof_operand_view (SizeofOperandOf.Type t) = PartData.sizeof_of_type (type_name_view t)
-sizeof_operand_view (SizeofOperandOf.Expression e) = PartData.sizeof_of_expression (expression_view e)
+sizeof_operand_view (SizeofOperandOf.Expression e) = PartData.sizeof_of_expression (boxed_view e)
 
 abbrev pub bracketed_view : Bracketed → PartData.BracketedData
-bracketed_view (BracketedOf.Cast t e) = PartData.bracketed_cast (type_name_view t) (expression_view e.value)
+bracketed_view (BracketedOf.Cast t e) = PartData.bracketed_cast (type_name_view t) (boxed_view e)
 bracketed_view (BracketedOf.Operand o) = PartData.bracketed_operand (operand_view o)
 
 abbrev pub structure_view : Structure → PartData.StructureData
@@ -85,12 +85,12 @@ external_rest_view (ExternalRestOf.Declarators ds) = PartData.rest_declarators (
 external_rest_view (ExternalRestOf.Function ps w f) = PartData.rest_function (pointers_view ps) w (function_rest_view f)
 
 abbrev pub simple_rest_view : SimpleRest → PartData.SimpleRestData
-simple_rest_view (SimpleRestOf.Assignment p o e) = PartData.rest_assignment p o (expression_view e)
+simple_rest_view (SimpleRestOf.Assignment p o e) = PartData.rest_assignment p o (boxed_view e)
 simple_rest_view (SimpleRestOf.Step p s) = PartData.rest_step p s
 
 abbrev pub expression_part_view : ExpressionPart → PartData.ExpressionPart
 expression_part_view (ExpressionPartOf.Operand x) = PartData.operand (operand_view x)
-expression_part_view (ExpressionPartOf.OptionalExpression x) = PartData.optional_expression (option_map expression_view x)
+expression_part_view (ExpressionPartOf.OptionalExpression x) = PartData.optional_expression (option_map boxed_view x)
 expression_part_view (ExpressionPartOf.InfixOperator x) = PartData.infix_operator x
 expression_part_view (ExpressionPartOf.Operations x) = PartData.operations (map operation_view x)
 expression_part_view (ExpressionPartOf.PrefixOperator x) = PartData.prefix_operator x

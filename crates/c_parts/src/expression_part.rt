@@ -1,6 +1,6 @@
 ghost use Rattle.std.specs.Prelude.{◌≡◌, map};
 ghost use Rattle.std.specs.Option.{option_map};
-ghost use Rattle.c_program.specs.Views.{expression_view, operation_view, postfix_view, type_name_view};
+ghost use Rattle.c_program.specs.Views.{boxed_view, expression_view, operation_view, postfix_view, type_name_view};
 ghost use Rattle.c_parts.specs.Kinds;
 ghost use Rattle.c_parts.specs.PartData;
 ghost use Rattle.c_parts.specs.PartViews.{expression_part_view, bracketed_view, branches_view, operand_view, sizeof_operand_view};
@@ -16,7 +16,7 @@ use misra_base::Place;
 /// An expression, and whether it is all in brackets.
 #[derive(Drop)]
 pub struct Operand {
-    pub expression: Expression,
+    pub expression: Box<Expression>,
     pub bracketed: bool,
 }
 
@@ -47,7 +47,7 @@ pub struct Branches {
 #[derive(Drop)]
 pub enum SizeofOperand {
     Type(TypeName),
-    Expression(Expression),
+    Expression(Box<Expression>),
 }
 
 /// What an opening bracket begins.
@@ -81,7 +81,7 @@ pub enum ExpressionPart {
     /// An expression.
     Operand(Operand),
     /// An expression, or none.
-    OptionalExpression(Option<Expression>),
+    OptionalExpression(Option<Box<Expression>>),
     /// An operator between operands.
     InfixOperator(InfixOperator),
     /// Operators with their right operands.
@@ -142,9 +142,9 @@ impl ExpressionPart {
     }
 
     /// Its content: an expression, or none.
-    pub fn optional_expression(self) -> Option<Expression>
+    pub fn optional_expression(self) -> Option<Box<Expression>>
         requires { kind_of (PartData.expression_part (expression_part_view self)) ≡ Kinds.optional_expression }
-        ensures { option_map expression_view result ≡ optional_expression_of (PartData.expression_part (expression_part_view self)) }
+        ensures { option_map boxed_view result ≡ optional_expression_of (PartData.expression_part (expression_part_view self)) }
     {
         match self {
             ExpressionPart::OptionalExpression(part) => part,

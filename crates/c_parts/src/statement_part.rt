@@ -19,7 +19,7 @@ pub enum SimpleRest {
     Assignment {
         place: Place,
         operator: AssignmentOperator,
-        value: Expression,
+        value: Box<Expression>,
     },
     Step {
         place: Place,

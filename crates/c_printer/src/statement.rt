@@ -98,7 +98,7 @@ fn put_condition(
 
 fn put_for(
     start: &Option<ForStart>,
-    condition: &Option<Expression>,
+    condition: &Option<Box<Expression>>,
     step: &Option<Simple>,
     out: &mut Vec<u8>,
 ) -> Result<(), AllocError> {

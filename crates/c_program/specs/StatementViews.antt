@@ -1,7 +1,6 @@
 -- What the types of declarations and statements stand for.
 use Rattle.std.specs.Prelude.{ℕ, List, [], ◌∷◌, map, Option, None, Some}
 use Rattle.std.specs.Option.{option_map}
-use Rattle.c_program.specs.declared.expression.Expression.{Expression}
 use Rattle.c_program.specs.declared.declaration.Initializer.{Initializer, fold-Initializer, Initializer-F}
 use Rattle.c_program.specs.declared.declaration.Initialization.{Initialization}
 use Rattle.c_program.specs.declared.declaration.InitDeclarator.{InitDeclarator}
@@ -27,7 +26,7 @@ use Rattle.c_program.specs.declared.tree.Function.{Function}
 use Rattle.c_program.specs.declared.tree.External.{External}
 use Rattle.c_program.specs.declared.tree.External.TheVariants as ExternalOf
 use Rattle.c_program.specs.declared.tree.Tree.{Tree}
-use Rattle.c_program.specs.Views.{expression_view, declarator_view, bound_view, specifiers_view, pointers_view}
+use Rattle.c_program.specs.Views.{boxed_view, declarator_view, bound_view, specifiers_view, pointers_view}
 use Rattle.c_program.specs.Statements
 
 abbrev pub initializers_of : List Statements.InitializerData → Statements.Initializers
@@ -35,7 +34,7 @@ initializers_of [] = Statements.no_initializers
 initializers_of (i ∷ is) = Statements.initializer i (initializers_of is)
 
 abbrev pub initializer_level : Initializer-F Statements.InitializerData → Statements.InitializerData
-initializer_level (Initializer-F.Expression e) = Statements.initial_expression (expression_view e)
+initializer_level (Initializer-F.Expression e) = Statements.initial_expression (boxed_view e)
 initializer_level (Initializer-F.List p is) = Statements.initial_list p (initializers_of is.items)
 
 abbrev pub initializer_view : Initializer → Statements.InitializerData
@@ -51,21 +50,21 @@ abbrev pub declaration_view : Declaration → Statements.DeclarationData
 declaration_view d = record { specifiers = specifiers_view d.specifiers.items; declarators = map init_declarator_view d.declarators.items }
 
 abbrev pub simple_view : Simple → Statements.SimpleData
-simple_view (SimpleOf.Expression e) = Statements.simple_expression (expression_view e)
-simple_view (SimpleOf.Assignment t p o v) = Statements.assignment (expression_view t) p o (expression_view v)
-simple_view (SimpleOf.Prefix p s e) = Statements.prefix_step p s (expression_view e)
-simple_view (SimpleOf.Postfix e b p s) = Statements.postfix_step (expression_view e) b p s
+simple_view (SimpleOf.Expression e) = Statements.simple_expression (boxed_view e)
+simple_view (SimpleOf.Assignment t p o v) = Statements.assignment (boxed_view t) p o (boxed_view v)
+simple_view (SimpleOf.Prefix p s e) = Statements.prefix_step p s (boxed_view e)
+simple_view (SimpleOf.Postfix e b p s) = Statements.postfix_step (boxed_view e) b p s
 
 abbrev pub leave_view : Leave → Statements.LeaveData
 leave_view (LeaveOf.Break p) = Statements.breaks p
-leave_view (LeaveOf.Return p e) = Statements.returns p (option_map expression_view e)
+leave_view (LeaveOf.Return p e) = Statements.returns p (option_map boxed_view e)
 
 abbrev pub for_start_view : ForStart → Statements.ForStartData
-for_start_view (ForStartOf.Declaration ss ps w p e) = Statements.start_declaration (specifiers_view ss.items) (pointers_view ps.items) w p (expression_view e)
+for_start_view (ForStartOf.Declaration ss ps w p e) = Statements.start_declaration (specifiers_view ss.items) (pointers_view ps.items) w p (boxed_view e)
 for_start_view (ForStartOf.Simple s) = Statements.start_simple (simple_view s)
 
 abbrev pub case_label_view : CaseLabel → Statements.CaseLabelData
-case_label_view l = record { place = l.place; value = expression_view l.value }
+case_label_view l = record { place = l.place; value = boxed_view l.value }
 
 -- ---- statements
 
@@ -108,10 +107,10 @@ otherwise_level (Otherwise-F.Otherwise::If i) = Statements.otherwise_if i.value
 abbrev pub statement_level : Level Statement-F → Statements.StatementData
 statement_level (Statement-F.Statement::Block b) = Statements.block_statement b
 statement_level (Statement-F.Statement::If i) = Statements.if_statement i
-statement_level (Statement-F.While p c b) = Statements.while_statement p (expression_view c) b
-statement_level (Statement-F.DoWhile b p c) = Statements.do_statement b p (expression_view c)
-statement_level (Statement-F.For p s c t b) = Statements.for_statement p (option_map for_start_view s) (option_map expression_view c) (option_map simple_view t) b
-statement_level (Statement-F.Switch p e cs d) = Statements.switch_statement p (expression_view e) (clauses_of cs.items) (maybe_body d)
+statement_level (Statement-F.While p c b) = Statements.while_statement p (boxed_view c) b
+statement_level (Statement-F.DoWhile b p c) = Statements.do_statement b p (boxed_view c)
+statement_level (Statement-F.For p s c t b) = Statements.for_statement p (option_map for_start_view s) (option_map boxed_view c) (option_map simple_view t) b
+statement_level (Statement-F.Switch p e cs d) = Statements.switch_statement p (boxed_view e) (clauses_of cs.items) (maybe_body d)
 statement_level (Statement-F.Continue p) = Statements.continue_statement p
 statement_level (Statement-F.Simple s) = Statements.simple_statement (simple_view s)
 statement_level (Statement-F.Empty p) = Statements.empty_statement p
@@ -126,7 +125,7 @@ abbrev pub clause_level : Level Clause-F → OneClause
 clause_level c = record { labels = map case_label_view c.labels.items; body = c.body }
 
 abbrev pub if_level : Level If-F → Statements.IfData
-if_level i = Statements.if_then i.place (expression_view i.condition) i.then (maybe_otherwise i.otherwise)
+if_level i = Statements.if_then i.place (boxed_view i.condition) i.then (maybe_otherwise i.otherwise)
 
 abbrev pub statement_view : Statement → Statements.StatementData
 statement_view = fold-Statement _ _ _ _ _ _ _ item_level otherwise_level statement_level block_level body_level clause_level if_level

@@ -1,5 +1,6 @@
 -- What the types of the tree stand for.
-use Rattle.std.specs.Prelude.{ℕ, List, [], ◌∷◌, map, Option, None, Some}
+use Rattle.std.specs.Prelude.{ℕ, List, [], ◌∷◌, map, Option, None, Some, Box}
+use Rattle.std.specs.declared.alloc.Global.{Global}
 use Rattle.misra_base.specs.declared.place.Place.{Place}
 use Rattle.c_program.specs.declared.expression.BinaryOperator.{BinaryOperator}
 use Rattle.c_program.specs.declared.expression.Word.{Word}
@@ -38,6 +39,10 @@ pointers_view pointers = map (λ p. record { place = p.place; qualifiers = p.qua
 abbrev pub maybe_of : Option Expressions.ExpressionData → Expressions.MaybeExpression
 maybe_of None = Expressions.no_expression
 maybe_of (Some e) = Expressions.some_expression e
+
+abbrev pub maybe_boxed : Option (Box Expressions.ExpressionData Global) → Expressions.MaybeExpression
+maybe_boxed None = Expressions.no_expression
+maybe_boxed (Some e) = Expressions.some_expression e.value
 
 abbrev pub expressions_of : List Expressions.ExpressionData → Expressions.Expressions
 expressions_of [] = Expressions.no_expressions
@@ -89,7 +94,7 @@ expression_level (Expression-F.Cast p t e) = Expressions.cast p t e.value
 expression_level (Expression-F.Postfix e ps) = Expressions.postfix e.value (postfixes_of ps.items)
 
 abbrev pub postfix_level : Level Postfix-F → Expressions.PostfixData
-postfix_level (Postfix-F.Index p e) = Expressions.index p e
+postfix_level (Postfix-F.Index p e) = Expressions.index p e.value
 postfix_level (Postfix-F.Call p es) = Expressions.call p (expressions_of es.items)
 postfix_level (Postfix-F.Member p w) = Expressions.member p w
 postfix_level (Postfix-F.Arrow p w) = Expressions.arrow p w
@@ -104,19 +109,19 @@ specifier_level (Specifier-F.EnumReference p t) = Expressions.enumeration_refere
 specifier_level (Specifier-F.EnumDeclaration p t es) = Expressions.enumeration_declaration p t (enumerators_of es.items)
 
 abbrev pub bound_level : Level Bound-F → Expressions.BoundData
-bound_level b = Expressions.bound (maybe_of b.size) b.close
+bound_level b = Expressions.bound (maybe_boxed b.size) b.close
 
 abbrev pub declarator_level : Level Declarator-F → Expressions.DeclaratorData
 declarator_level d = Expressions.declarator (pointers_view d.pointers.items) d.name (bounds_of d.bounds.items)
 
 abbrev pub enumerator_level : Level Enumerator-F → OneEnumerator
-enumerator_level e = record { name = e.name; value = maybe_of e.value }
+enumerator_level e = record { name = e.name; value = maybe_boxed e.value }
 
 abbrev pub member_level : Level MemberDeclaration-F → OneMember
 member_level m = record { specifiers = specifiers_of m.specifiers.items; declarators = declarators_of m.declarators.items }
 
 abbrev pub operation_level : Level Operation-F → OneOperation
-operation_level o = record { place = o.place; operator = o.operator; operand = o.operand }
+operation_level o = record { place = o.place; operator = o.operator; operand = o.operand.value }
 
 abbrev pub type_name_level : Level TypeName-F → Expressions.TypeNameData
 type_name_level t = Expressions.type_name (specifiers_of t.specifiers.items) (pointers_view t.pointers.items)
@@ -125,6 +130,9 @@ type_name_level t = Expressions.type_name (specifiers_of t.specifiers.items) (po
 
 abbrev pub expression_view : Expression → Expressions.ExpressionData
 expression_view = fold-Expression _ _ _ _ _ _ _ _ _ expression_level postfix_level specifier_level bound_level declarator_level enumerator_level member_level operation_level type_name_level
+
+abbrev pub boxed_view : Box Expression Global → Expressions.ExpressionData
+boxed_view e = expression_view e.value
 
 abbrev pub operation_view : Operation → OneOperation
 operation_view = fold-Operation _ _ _ _ _ _ _ _ _ expression_level postfix_level specifier_level bound_level declarator_level enumerator_level member_level operation_level type_name_level

@@ -4,7 +4,7 @@ use misra_base::Place;
 /// What an object begins with (C11 6.7.9).
 #[derive(Debug)]
 pub enum Initializer {
-    Expression(Expression),
+    Expression(Box<Expression>),
     List {
         place: Place,
         items: Vec<Initializer>,

@@ -163,7 +163,7 @@ impl Drop for Expression {
 pub struct Operation {
     pub place: Place,
     pub operator: BinaryOperator,
-    pub operand: Expression,
+    pub operand: Box<Expression>,
 }
 
 /// What stands behind an operand (C11 6.5.2).
@@ -172,7 +172,7 @@ pub struct Operation {
 pub enum Postfix {
     Index {
         place: Place,
-        index: Expression,
+        index: Box<Expression>,
     },
     Call {
         place: Place,
@@ -311,7 +311,7 @@ impl Drop for Declarator {
 #[cycle(expression)]
 #[derive(Debug, Drop)]
 pub struct Bound {
-    pub size: Option<Expression>,
+    pub size: Option<Box<Expression>>,
     pub close: Place,
 }
 
@@ -320,5 +320,5 @@ pub struct Bound {
 #[derive(Debug, Drop)]
 pub struct Enumerator {
     pub name: Word,
-    pub value: Option<Expression>,
+    pub value: Option<Box<Expression>>,
 }

@@ -28,20 +28,20 @@ pub enum Step {
 /// An expression that stands as a statement (C11 6.8.3).
 #[derive(Debug)]
 pub enum Simple {
-    Expression(Expression),
+    Expression(Box<Expression>),
     Assignment {
-        target: Expression,
+        target: Box<Expression>,
         place: Place,
         operator: AssignmentOperator,
-        value: Expression,
+        value: Box<Expression>,
     },
     Prefix {
         place: Place,
         step: Step,
-        operand: Expression,
+        operand: Box<Expression>,
     },
     Postfix {
-        operand: Expression,
+        operand: Box<Expression>,
         /// Whether the operand stood in brackets.
         bracketed: bool,
         place: Place,
@@ -82,7 +82,7 @@ pub enum Leave {
     },
     Return {
         place: Place,
-        value: Option<Expression>,
+        value: Option<Box<Expression>>,
     },
 }
 
@@ -94,7 +94,7 @@ pub enum ForStart {
         pointers: Vec<Pointer>,
         name: Word,
         place: Place,
-        value: Expression,
+        value: Box<Expression>,
     },
     Simple(Simple),
 }
@@ -118,7 +118,7 @@ impl Drop for ForStart {
 #[derive(Debug, Drop)]
 pub struct CaseLabel {
     pub place: Place,
-    pub value: Expression,
+    pub value: Box<Expression>,
 }
 
 /// A compound statement (C11 6.8.2).
@@ -162,25 +162,25 @@ pub enum Statement {
     If(If),
     While {
         place: Place,
-        condition: Expression,
+        condition: Box<Expression>,
         body: Block,
     },
     DoWhile {
         body: Block,
         /// The place of the `while`.
         place: Place,
-        condition: Expression,
+        condition: Box<Expression>,
     },
     For {
         place: Place,
         start: Option<ForStart>,
-        condition: Option<Expression>,
+        condition: Option<Box<Expression>>,
         step: Option<Simple>,
         body: Block,
     },
     Switch {
         place: Place,
-        subject: Expression,
+        subject: Box<Expression>,
         clauses: Vec<Clause>,
         default: Option<Body>,
     },
@@ -234,7 +234,7 @@ impl Drop for Statement {
 #[derive(Debug)]
 pub struct If {
     pub place: Place,
-    pub condition: Expression,
+    pub condition: Box<Expression>,
     pub then: Block,
     pub otherwise: Option<Otherwise>,
 }
