@@ -1,4 +1,4 @@
-ghost use Rattle.std.specs.Prelude.{◌≡◌, ◌<◌, ◌++◌, List, [], length, slice_index, All, IfOk, OnOk, ◌∷◌, codes, replicate};
+ghost use Rattle.std.specs.Prelude.{◌≡◌, ◌<◌, ◌++◌, List, [], length, All, IfOk, OnOk, ◌∷◌, codes, replicate};
 ghost use Rattle.analysis.specs.declared.program.Call.{Call as TheCall};
 ghost use Rattle.analysis.specs.Depths.{use_by};
 ghost use Rattle.analysis.specs.LeastDepths.{moved, AreLeast};

@@ -2,7 +2,7 @@ ghost use Rattle.std.specs.Prelude.{◌≡◌, ◌≤◌, ◌<◌, All, Some, le
 ghost use Rattle.ll_core.specs.Answers.{IsDerivedWithin, IsOnlyDerivation};
 ghost use Rattle.c_lexer.specs.Limits.{StopsBy};
 ghost use Rattle.c_lexer.specs.Slices.{IsWithin};
-ghost use Rattle.c_grammar.specs.Syntax.{classes_of, construct_name, refused_token, refused_at, too_deep, StopsBySyntax};
+ghost use Rattle.c_grammar.specs.Syntax.{classes_of, construct_name, refused_token, refused_at, StopsBySyntax};
 
 use crate::tables::PRODUCTIONS;
 use c_lexer::{FIRST_PLACE, Token, TokenClass, place_after};

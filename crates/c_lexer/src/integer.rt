@@ -1,6 +1,6 @@
 ghost use Rattle.std.specs.Prelude.{◌≡◌, ◌<◌, ◌≤◌, ◌+◌, ◌*◌, ◌^◌, length, nat_lt, SomeIff};
 ghost use Rattle.std.specs.List.{prefix_len};
-ghost use Rattle.c_lexer.specs.Integers.{digit_value, is_digit_of, place_value, is_u, is_l, suffix_of_one, suffix_of_two, suffix_of_three, suffix_of, limit, types_of, first_type, begins_zero, base_of, body_of, typed, literal_of, integer_literal};
+ghost use Rattle.c_lexer.specs.Integers.{digit_value, is_digit_of, place_value, is_u, is_l, suffix_of_one, suffix_of_two, suffix_of_three, suffix_of, limit, types_of, first_type, base_of, body_of, literal_of, integer_literal};
 
 use crate::number::begins_hexadecimal;
 

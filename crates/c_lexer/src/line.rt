@@ -1,5 +1,5 @@
 ghost use Rattle.std.specs.Prelude.{◌≡◌, ◌≤◌, ◌<◌, ◌+◌, length, IfSome};
-ghost use Rattle.c_lexer.specs.Lines.{comment_end, quote_end, without_gap, begins_gap, begins_line_number, is_line_mark, header_length, include_length, include_end, line_word};
+ghost use Rattle.c_lexer.specs.Lines.{comment_end, quote_end, without_gap, begins_line_number, is_line_mark, header_length, include_length, include_end, line_word};
 
 use crate::bytes::{gap_length, is_letter, word_rest};
 

@@ -1,5 +1,5 @@
 ghost use Rattle.std.specs.Prelude.{◌≡◌, ◌≤◌, ◌<◌, ◌+◌, ◌∷◌, length, take, IfOk};
-ghost use Rattle.c_lexer.specs.Pieces.{number_piece, character_length, no_character, character_piece, string_piece, slash_piece, hash_piece, other_piece, piece_at, size_of, IsCut, fresh_behind, fault_code, hexadecimal, fault_name};
+ghost use Rattle.c_lexer.specs.Pieces.{number_piece, character_length, character_piece, string_piece, slash_piece, hash_piece, other_piece, piece_at, IsCut, fresh_behind, fault_code, hexadecimal, fault_name};
 ghost use Rattle.c_lexer.specs.Lines.{quote_end as quoted};
 
 use crate::bytes::{is_blank, is_letter, line_rest, word_rest};

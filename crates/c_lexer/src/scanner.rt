@@ -1,8 +1,8 @@
-ghost use Rattle.std.specs.Prelude.{◌≡◌, ◌≤◌, ◌<◌, ◌+◌, ◌^◌, ℕ, zero, take, length, All, MatchResult, IfOk, IfErr};
+ghost use Rattle.std.specs.Prelude.{◌≡◌, ◌≤◌, ◌<◌, ◌+◌, ◌^◌, zero, length, All, MatchResult, IfOk, IfErr};
 ghost use Rattle.misra_base.specs.Tables.{rows};
 ghost use Rattle.c_lexer.specs.TokenClasses.{number_rows, class_number};
 ghost use Rattle.c_lexer.specs.Pieces.{fault_code, fault_name};
-ghost use Rattle.c_lexer.specs.Tokens.{class_of_lexeme, lexed_from, lexed_of, tokens_of};
+ghost use Rattle.c_lexer.specs.Tokens.{class_of_lexeme, lexed_from, tokens_of};
 ghost use Rattle.c_lexer.specs.Scanning.{GoesOn, IsWhole, behind};
 ghost use Rattle.c_lexer.specs.Slices.{AreInOrder, HasClass, IsWithin};
 ghost use Rattle.c_lexer.specs.Limits.{StopsBy, fault_of, lexical_fault};
@@ -14,7 +14,7 @@ use crate::token::Token;
 use crate::token_class::{TokenClass, class_of, class_table};
 use crate::typedef_name::with_typedef_names;
 use misra_base::{CheckStop, KeyTable, Name, Place, Refusal};
-use std::alloc::{AllocError, Global};
+use std::alloc::Global;
 
 /// The most bytes that a text may have.
 pub const MAX_BYTES: usize = 262_144;

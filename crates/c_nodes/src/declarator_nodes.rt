@@ -7,11 +7,12 @@ ghost use Rattle.c_program.specs.Views.{pointers_view, boxed_view, declarator_vi
 ghost use Rattle.c_program.specs.StatementViews;
 ghost use Rattle.c_program.specs.StatementViews.{initializer_view, initialization_view, init_declarator_view};
 ghost use Rattle.c_parts.specs.PartData;
-ghost use Rattle.c_parts.specs.PartViews.{leaf_view, operand_view, objects_view, declaration_part_view, parts_view};
+ghost use Rattle.c_parts.specs.PartViews.{leaf_view, objects_view, declaration_part_view, parts_view};
 ghost use Rattle.c_parts.specs.Reading.{Fits};
+ghost use Rattle.c_nodes.specs.declared.declarator_nodes.DeclaratorAction.TheVariants as ActionOf;
 ghost use Rattle.c_nodes.specs.DeclaratorNodes.{kinds, all_declarators, node};
 
-use c_parts::{Chain, DeclarationPart, Leaf, Objects, Operand, Parts};
+use c_parts::{Chain, DeclarationPart, Leaf, Objects, Parts};
 use c_program::{
     Bound, Declarator, Expression, InitDeclarator, Initialization, Initializer, Pointer, Qualifier,
 };
@@ -93,18 +94,22 @@ pub(crate) fn declarator_node(
         DeclaratorAction::Pointers => Ok(DeclarationPart::Pointers(
             parts.declaration_part().pointers(),
         )),
-        DeclaratorAction::Bound => bound(
-            parts.leaf(),
-            parts.expression_part().optional_expression(),
-            parts.leaf(),
-            parts.declaration_part().bounds(),
-        ),
-        DeclaratorAction::MemberBound => member_bound(
-            parts.leaf(),
-            parts.expression_part().operand(),
-            parts.leaf(),
-            parts.declaration_part().bounds(),
-        ),
+        DeclaratorAction::Bound => {
+            parts.leaf();
+            bound(
+                parts.expression_part().optional_expression(),
+                parts.leaf(),
+                parts.declaration_part().bounds(),
+            )
+        }
+        DeclaratorAction::MemberBound => {
+            parts.leaf();
+            bound(
+                Some(parts.expression_part().operand().expression),
+                parts.leaf(),
+                parts.declaration_part().bounds(),
+            )
+        }
         DeclaratorAction::NoBounds => Ok(DeclarationPart::Bounds(Chain::new(alloc))),
         DeclaratorAction::Bounds => Ok(DeclarationPart::Bounds(parts.declaration_part().bounds())),
         DeclaratorAction::Declarator => one_declarator(
@@ -138,15 +143,7 @@ pub(crate) fn declarator_node(
             parts.declaration_part().initializer(),
         ))),
         DeclaratorAction::NoInitialization => Ok(DeclarationPart::Initialization(None)),
-        DeclaratorAction::InitDeclarators => init_declarators(
-            alloc,
-            parts.leaf(),
-            parts.declaration_part().pointers(),
-            parts.leaf(),
-            parts.declaration_part().bounds(),
-            parts.declaration_part().initialization(),
-            parts.declaration_part().init_declarators(),
-        ),
+        DeclaratorAction::InitDeclarators => init_declarators(alloc, parts),
         DeclaratorAction::NoInitDeclarators => Ok(DeclarationPart::InitDeclarators(Chain::new(
             alloc,
         ))),
@@ -191,7 +188,6 @@ fn pointer(
 }
 
 fn bound(
-    _: Leaf,
     size: Option<Box<Expression>>,
     close: Leaf,
     mut bounds: Chain<Bound>,
@@ -200,21 +196,6 @@ fn bound(
 {
     bounds.put_front(Bound {
         size,
-        close: close.place,
-    })?;
-    Ok(DeclarationPart::Bounds(bounds))
-}
-
-fn member_bound(
-    _: Leaf,
-    size: Operand,
-    close: Leaf,
-    mut bounds: Chain<Bound>,
-) -> Result<DeclarationPart, AllocError>
-    ensures { IfOk result (λ part. declaration_part_view part ≡ PartData.bounds ((Expressions.bound (Expressions.some_expression (operand_view size).expression) (leaf_view close.entry).place) ∷ (map bound_view bounds))) }
-{
-    bounds.put_front(Bound {
-        size: Some(size.expression),
         close: close.place,
     })?;
     Ok(DeclarationPart::Bounds(bounds))
@@ -264,17 +245,16 @@ fn initialization(sign: Leaf, value: Initializer) -> Option<Initialization>
     })
 }
 
-fn init_declarators(
-    alloc: Global,
-    _: Leaf,
-    pointers: Chain<Pointer>,
-    name: Leaf,
-    bounds: Chain<Bound>,
-    initialization: Option<Initialization>,
-    mut declarators: Chain<InitDeclarator>,
-) -> Result<DeclarationPart, AllocError>
-    ensures { IfOk result (λ part. declaration_part_view part ≡ PartData.init_declarators ((record { declarator = Expressions.declarator (pointers_view pointers) (leaf_view name.entry) (Views.bounds_of (map bound_view bounds)); initialization = (option_map initialization_view initialization) }) ∷ (map init_declarator_view declarators))) }
+fn init_declarators(alloc: Global, parts: &mut Parts) -> Result<DeclarationPart, AllocError>
+    requires { Fits (kinds ActionOf.InitDeclarators) (parts_view parts.now) }
+    ensures { IfOk result (λ part. declaration_part_view part ≡ node ActionOf.InitDeclarators (parts_view parts.old)) }
 {
+    parts.leaf();
+    let pointers = parts.declaration_part().pointers();
+    let name = parts.leaf();
+    let bounds = parts.declaration_part().bounds();
+    let initialization = parts.declaration_part().initialization();
+    let mut declarators = parts.declaration_part().init_declarators();
     declarators.put_front(InitDeclarator {
         declarator: declarator(alloc, pointers, name, bounds)?,
         initialization,

@@ -6,6 +6,7 @@ ghost use Rattle.c_parts.specs.PartData;
 ghost use Rattle.c_parts.specs.PartViews.{leaf_view, operand_view, branches_view, sizeof_operand_view, bracketed_view, expression_part_view, parts_view};
 ghost use Rattle.c_parts.specs.Reading.{Fits};
 ghost use Rattle.c_nodes.specs.OperandNodes.{plain};
+ghost use Rattle.c_nodes.specs.declared.expression_nodes.ExpressionAction.TheVariants as ActionOf;
 ghost use Rattle.c_nodes.specs.ExpressionNodes.{kinds, sizeof, behind_bracket, node};
 
 use crate::operand_nodes::plain;
@@ -96,22 +97,19 @@ pub(crate) fn expression_node(
             operator,
         })),
         ExpressionAction::Operation(operator) => operation(
-            parts.leaf(),
+            InfixOperator {
+                place: parts.leaf().place,
+                operator,
+            },
             parts.expression_part().operand(),
             parts.expression_part().operations(),
-            operator,
         ),
-        ExpressionAction::SignedOperation => signed_operation(
+        ExpressionAction::SignedOperation => operation(
             parts.expression_part().infix_operator(),
             parts.expression_part().operand(),
             parts.expression_part().operations(),
         ),
-        ExpressionAction::Branches => Ok(ExpressionPart::Branches(Some(branches(
-            parts.leaf(),
-            parts.expression_part().operand(),
-            parts.leaf(),
-            parts.expression_part().operand(),
-        )))),
+        ExpressionAction::Branches => Ok(ExpressionPart::Branches(Some(branches(parts)))),
         ExpressionAction::Unary => unary(
             alloc,
             parts.expression_part().prefix_operator(),
@@ -199,22 +197,6 @@ pub(crate) fn expression_node(
 }
 
 fn operation(
-    sign: Leaf,
-    right: Operand,
-    mut operations: Chain<Operation>,
-    operator: BinaryOperator,
-) -> Result<ExpressionPart, AllocError>
-    ensures { IfOk result (λ part. expression_part_view part ≡ PartData.operations ((record { place = (leaf_view sign.entry).place; operator = operator; operand = (operand_view right).expression }) ∷ (map operation_view operations))) }
-{
-    operations.put_front(Operation {
-        place: sign.place,
-        operator,
-        operand: right.expression,
-    })?;
-    Ok(ExpressionPart::Operations(operations))
-}
-
-fn signed_operation(
     sign: InfixOperator,
     right: Operand,
     mut operations: Chain<Operation>,
@@ -251,13 +233,17 @@ fn type_name(specifiers: Chain<Specifier>, pointers: Chain<Pointer>) -> TypeName
     }
 }
 
-fn branches(question: Leaf, then: Operand, _: Leaf, otherwise: Operand) -> Branches
-    ensures { branches_view result ≡ record { question = (leaf_view question.entry).place; then = (operand_view then).expression; otherwise = (operand_view otherwise).expression } }
+fn branches(parts: &mut Parts) -> Branches
+    requires { Fits (kinds ActionOf.Branches) (parts_view parts.now) }
+    ensures { PartData.branches (Some (branches_view result)) ≡ node ActionOf.Branches (parts_view parts.old) }
 {
+    let question = parts.leaf().place;
+    let then = parts.expression_part().operand().expression;
+    parts.leaf();
     Branches {
-        question: question.place,
-        then: then.expression,
-        otherwise: otherwise.expression,
+        question,
+        then,
+        otherwise: parts.expression_part().operand().expression,
     }
 }
 

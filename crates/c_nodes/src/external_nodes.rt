@@ -1,13 +1,13 @@
 ghost use Rattle.std.specs.Prelude.{◌≡◌, ◌∷◌, map, IfOk, Some};
 ghost use Rattle.std.specs.Option.{option_map};
 ghost use Rattle.c_program.specs.Expressions;
-ghost use Rattle.c_program.specs.Statements;
 ghost use Rattle.c_program.specs.Views;
 ghost use Rattle.c_program.specs.Views.{pointers_view, boxed_view, specifier_view, bound_view};
-ghost use Rattle.c_program.specs.StatementViews.{block_view, parameter_view, external_view};
+ghost use Rattle.c_program.specs.StatementViews.{parameter_view, external_view};
 ghost use Rattle.c_parts.specs.PartData;
 ghost use Rattle.c_parts.specs.PartViews.{leaf_view, parameter_name_view, name_rest_view, external_rest_view, external_part_view, parts_view};
 ghost use Rattle.c_parts.specs.Reading.{Fits};
+ghost use Rattle.c_nodes.specs.declared.external_nodes.ExternalAction.TheVariants as ActionOf;
 ghost use Rattle.c_nodes.specs.ExternalNodes.{kinds, external, named, node};
 
 use crate::declarator_nodes::all_declarators;
@@ -15,7 +15,7 @@ use c_parts::{
     Chain, ExternalPart, ExternalRest, FunctionRest, Leaf, NameRest, ParameterName, Parts,
 };
 use c_program::{
-    Block, Bound, Declaration, Expression, External, Function, Parameter, Pointer, Specifier,
+    Bound, Declaration, Expression, External, Function, Parameter, Pointer, Specifier,
     TypeDefinition,
 };
 use std::alloc::{AllocError, Global};
@@ -79,13 +79,7 @@ pub(crate) fn external_node(
         ),
         ExternalAction::NoExternals => Ok(ExternalPart::Externals(Chain::new(alloc))),
         ExternalAction::Unit => Ok(ExternalPart::Externals(parts.external_part().externals())),
-        ExternalAction::TypeDefinition => type_definition(
-            alloc,
-            parts.leaf(),
-            parts.declaration_part().specifiers(),
-            parts.declaration_part().pointers(),
-            parts.leaf(),
-        ),
+        ExternalAction::TypeDefinition => type_definition(alloc, parts),
         ExternalAction::Declared => Ok(ExternalPart::External(external(
             parts.declaration_part().specifiers(),
             parts.external_part().external_rest(),
@@ -105,13 +99,7 @@ pub(crate) fn external_node(
         ExternalAction::ObjectsBehindName => Ok(ExternalPart::NameRest(NameRest::Objects(
             parts.declaration_part().objects(),
         ))),
-        ExternalAction::Function => function(
-            parts.leaf(),
-            parts.external_part().parameter(),
-            parts.external_part().parameters(),
-            parts.leaf(),
-            parts.external_part().optional_block(),
-        ),
+        ExternalAction::Function => function(parts),
         ExternalAction::Parameters => parameters(
             parts.leaf(),
             parts.external_part().parameter(),
@@ -152,20 +140,18 @@ fn externals(one: External, mut externals: Chain<External>) -> Result<ExternalPa
     Ok(ExternalPart::Externals(externals))
 }
 
-fn type_definition(
-    alloc: Global,
-    keyword: Leaf,
-    specifiers: Chain<Specifier>,
-    pointers: Chain<Pointer>,
-    name: Leaf,
-) -> Result<ExternalPart, AllocError>
-    ensures { IfOk result (λ part. external_part_view part ≡ PartData.external (Statements.type_definition (record { place = (leaf_view keyword.entry).place; specifiers = Views.specifiers_of (map specifier_view specifiers); pointers = (pointers_view pointers); name = (leaf_view name.entry) }))) }
+fn type_definition(alloc: Global, parts: &mut Parts) -> Result<ExternalPart, AllocError>
+    requires { Fits (kinds ActionOf.TypeDefinition) (parts_view parts.now) }
+    ensures { IfOk result (λ part. external_part_view part ≡ node ActionOf.TypeDefinition (parts_view parts.old)) }
 {
+    let place = parts.leaf().place;
+    let specifiers = parts.declaration_part().specifiers();
+    let pointers = parts.declaration_part().pointers();
     Ok(ExternalPart::External(External::TypeDefinition(TypeDefinition {
-        place: keyword.place,
+        place,
         specifiers: specifiers.into_vec(),
         pointers: pointers.into_vec(),
-        name: name.word(alloc)?,
+        name: parts.leaf().word(alloc)?,
     })))
 }
 
@@ -180,15 +166,15 @@ fn name_and_rest(
     Ok(ExternalPart::ExternalRest(named(alloc, pointers, name, name_rest)?))
 }
 
-fn function(
-    _: Leaf,
-    first: Parameter,
-    mut parameters: Chain<Parameter>,
-    _: Leaf,
-    body: Option<Block>,
-) -> Result<ExternalPart, AllocError>
-    ensures { IfOk result (λ part. external_part_view part ≡ PartData.function_rest (record { parameters = (parameter_view first) ∷ (map parameter_view parameters); body = (option_map block_view body) })) }
+fn function(parts: &mut Parts) -> Result<ExternalPart, AllocError>
+    requires { Fits (kinds ActionOf.Function) (parts_view parts.now) }
+    ensures { IfOk result (λ part. external_part_view part ≡ node ActionOf.Function (parts_view parts.old)) }
 {
+    parts.leaf();
+    let first = parts.external_part().parameter();
+    let mut parameters = parts.external_part().parameters();
+    parts.leaf();
+    let body = parts.external_part().optional_block();
     parameters.put_front(first)?;
     Ok(ExternalPart::FunctionRest(FunctionRest { parameters, body }))
 }

@@ -6,6 +6,7 @@ ghost use Rattle.c_program.specs.Views.{boxed_view, member_view, enumerator_view
 ghost use Rattle.c_parts.specs.PartData;
 ghost use Rattle.c_parts.specs.PartViews.{leaf_view, structure_view, enumeration_view, declaration_part_view, parts_view};
 ghost use Rattle.c_parts.specs.Reading.{Fits};
+ghost use Rattle.c_nodes.specs.declared.specifier_nodes.SpecifierAction.TheVariants as ActionOf;
 ghost use Rattle.c_nodes.specs.SpecifierNodes.{kinds, tagged_structure, struct_specifier, tagged_enumeration, enum_specifier, node};
 
 use c_parts::{Chain, DeclarationPart, Enumeration, Leaf, Parts, Structure};
@@ -112,13 +113,7 @@ pub(crate) fn specifier_node(
             parts.leaf();
             Ok(DeclarationPart::Members(parts.declaration_part().members()))
         },
-        SpecifierAction::MemberDeclaration => members(
-            parts.declaration_part().specifiers(),
-            parts.declaration_part().declarator(),
-            parts.declaration_part().declarators(),
-            parts.leaf(),
-            parts.declaration_part().members(),
-        ),
+        SpecifierAction::MemberDeclaration => members(parts),
         SpecifierAction::NoMoreMembers => Ok(DeclarationPart::Members(Chain::new(alloc))),
         SpecifierAction::Declarators => declarators(
             parts.leaf(),
@@ -145,13 +140,15 @@ pub(crate) fn specifier_node(
             parts.declaration_part().enumerators(),
         ))),
         SpecifierAction::NoEnumerators => Ok(DeclarationPart::OptionalEnumerators(None)),
-        SpecifierAction::EnumeratorsInBraces => enumerators_in_braces(
-            alloc,
-            parts.leaf(),
-            parts.leaf(),
-            parts.expression_part().optional_expression(),
-            parts.declaration_part().enumerators(),
-        ),
+        SpecifierAction::EnumeratorsInBraces => {
+            parts.leaf();
+            enumerator(
+                alloc,
+                parts.leaf(),
+                parts.expression_part().optional_expression(),
+                parts.declaration_part().enumerators(),
+            )
+        }
         SpecifierAction::EnumeratorsBehindComma => {
             parts.leaf();
             Ok(DeclarationPart::Enumerators(parts.declaration_part().enumerators()))
@@ -216,17 +213,17 @@ fn structure_with_tag(
     Ok(DeclarationPart::Structure(tagged_structure(tag.word(alloc)?, members)))
 }
 
-fn members(
-    specifiers: Chain<Specifier>,
-    first: Declarator,
-    mut others: Chain<Declarator>,
-    _: Leaf,
-    mut members: Chain<MemberDeclaration>,
-) -> Result<DeclarationPart, AllocError>
-    ensures { IfOk result (λ part. declaration_part_view part ≡ PartData.members ((record { specifiers = Views.specifiers_of (map specifier_view specifiers); declarators = Views.declarators_of ((declarator_view first) ∷ (map declarator_view others)) }) ∷ (map member_view members))) }
+fn members(parts: &mut Parts) -> Result<DeclarationPart, AllocError>
+    requires { Fits (kinds ActionOf.MemberDeclaration) (parts_view parts.now) }
+    ensures { IfOk result (λ part. declaration_part_view part ≡ node ActionOf.MemberDeclaration (parts_view parts.old)) }
 {
-    others.put_front(first)?;
-    members.put_front(member_declaration(specifiers, others))?;
+    let specifiers = parts.declaration_part().specifiers();
+    let first = parts.declaration_part().declarator();
+    let mut declarators = parts.declaration_part().declarators();
+    parts.leaf();
+    let mut members = parts.declaration_part().members();
+    declarators.put_front(first)?;
+    members.put_front(member_declaration(specifiers, declarators))?;
     Ok(DeclarationPart::Members(members))
 }
 
@@ -255,22 +252,6 @@ fn enumeration_with_tag(
     ensures { IfOk result (λ part. declaration_part_view part ≡ PartData.enumeration (tagged_enumeration (leaf_view tag.entry) (option_map (map enumerator_view) enumerators))) }
 {
     Ok(DeclarationPart::Enumeration(tagged_enumeration(tag.word(alloc)?, enumerators)))
-}
-
-fn enumerators_in_braces(
-    alloc: Global,
-    _: Leaf,
-    name: Leaf,
-    value: Option<Box<Expression>>,
-    mut enumerators: Chain<Enumerator>,
-) -> Result<DeclarationPart, AllocError>
-    ensures { IfOk result (λ part. declaration_part_view part ≡ PartData.enumerators ((record { name = (leaf_view name.entry); value = Views.maybe_of (option_map boxed_view value) }) ∷ (map enumerator_view enumerators))) }
-{
-    enumerators.put_front(Enumerator {
-        name: name.word(alloc)?,
-        value,
-    })?;
-    Ok(DeclarationPart::Enumerators(enumerators))
 }
 
 fn enumerator(

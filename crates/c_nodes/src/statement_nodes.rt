@@ -1,19 +1,19 @@
 ghost use Rattle.std.specs.Prelude.{◌≡◌, ◌∷◌, map, IfOk};
-ghost use Rattle.std.specs.Option.{option_map};
 ghost use Rattle.c_program.specs.Statements;
 ghost use Rattle.c_program.specs.Views;
-ghost use Rattle.c_program.specs.Views.{pointers_view, boxed_view, specifier_view};
+ghost use Rattle.c_program.specs.Views.{specifier_view};
 ghost use Rattle.c_program.specs.StatementViews;
-ghost use Rattle.c_program.specs.StatementViews.{declaration_view, init_declarator_view, simple_view, for_start_view, statement_view, block_view, item_view, otherwise_view, body_view, clause_view, if_view};
+ghost use Rattle.c_program.specs.StatementViews.{declaration_view, init_declarator_view, statement_view, block_view, item_view, if_view};
 ghost use Rattle.c_parts.specs.PartData;
-ghost use Rattle.c_parts.specs.PartViews.{leaf_view, operand_view, statement_part_view, parts_view};
+ghost use Rattle.c_parts.specs.PartViews.{leaf_view, statement_part_view, parts_view};
 ghost use Rattle.c_parts.specs.Reading.{Fits};
+ghost use Rattle.c_nodes.specs.declared.statement_nodes.StatementAction.TheVariants as ActionOf;
 ghost use Rattle.c_nodes.specs.StatementNodes.{kinds, node};
 
-use c_parts::{Chain, Leaf, Operand, Parts, StatementPart};
+use c_parts::{Chain, Leaf, Parts, StatementPart};
 use c_program::{
-    Block, Body, Clause, Declaration, Expression, ForStart, If, InitDeclarator, Item, Leave,
-    Otherwise, Pointer, Simple, Specifier, Statement,
+    Block, Declaration, ForStart, If, InitDeclarator, Item, Leave, Otherwise, Simple, Specifier,
+    Statement,
 };
 use std::alloc::{AllocError, Global};
 
@@ -112,65 +112,16 @@ pub(crate) fn statement_node(
         StatementAction::IfStatement => {
             boxed_statement(alloc, Statement::If(parts.statement_part().if_statement()))
         }
-        StatementAction::While => boxed_statement(
-            alloc,
-            while_statement(
-                parts.leaf(),
-                parts.leaf(),
-                parts.expression_part().operand(),
-                parts.leaf(),
-                parts.statement_part().block(),
-            ),
-        ),
-        StatementAction::Do => boxed_statement(
-            alloc,
-            do_statement(
-                parts.leaf(),
-                parts.statement_part().block(),
-                parts.leaf(),
-                parts.leaf(),
-                parts.expression_part().operand(),
-            ),
-        ),
-        StatementAction::For => boxed_statement(
-            alloc,
-            for_statement(
-                parts.leaf(),
-                parts.leaf(),
-                parts.statement_part().optional_for_start(),
-                parts.leaf(),
-                parts.expression_part().optional_expression(),
-                parts.leaf(),
-                parts.statement_part().optional_simple(),
-                parts.leaf(),
-                parts.statement_part().block(),
-            ),
-        ),
-        StatementAction::Switch => boxed_statement(
-            alloc,
-            switch_statement(
-                parts.leaf(),
-                parts.leaf(),
-                parts.expression_part().operand(),
-                parts.leaf(),
-                parts.leaf(),
-                parts.statement_part().clauses(),
-                parts.statement_part().optional_body(),
-            ),
-        ),
+        StatementAction::While => boxed_statement(alloc, while_statement(parts)),
+        StatementAction::Do => boxed_statement(alloc, do_statement(parts)),
+        StatementAction::For => boxed_statement(alloc, for_statement(parts)),
+        StatementAction::Switch => boxed_statement(alloc, switch_statement(parts)),
         StatementAction::Continue => boxed_statement(alloc, continue_statement(parts.leaf())),
         StatementAction::SimpleStatement => {
             boxed_statement(alloc, Statement::Simple(parts.statement_part().simple()))
         }
         StatementAction::Empty => boxed_statement(alloc, empty(parts.leaf())),
-        StatementAction::If => Ok(StatementPart::IfStatement(if_node(
-            parts.leaf(),
-            parts.leaf(),
-            parts.expression_part().operand(),
-            parts.leaf(),
-            parts.statement_part().block(),
-            parts.statement_part().otherwise(),
-        ))),
+        StatementAction::If => Ok(StatementPart::IfStatement(if_statement(parts))),
         StatementAction::Else => {
             parts.leaf();
             Ok(StatementPart::Otherwise(Some(parts.statement_part().otherwise_branch())))
@@ -184,14 +135,7 @@ pub(crate) fn statement_node(
             parts.statement_part().for_start(),
         ))),
         StatementAction::NoForStart => Ok(StatementPart::OptionalForStart(None)),
-        StatementAction::StartDeclaration => start_declaration(
-            alloc,
-            parts.declaration_part().specifiers(),
-            parts.declaration_part().pointers(),
-            parts.leaf(),
-            parts.leaf(),
-            parts.expression_part().operand(),
-        ),
+        StatementAction::StartDeclaration => start_declaration(alloc, parts),
         StatementAction::StartSimple => Ok(StatementPart::ForStart(ForStart::Simple(
             parts.statement_part().simple(),
         ))),
@@ -239,64 +183,72 @@ fn boxed_statement(alloc: Global, statement: Statement) -> Result<StatementPart,
     Ok(StatementPart::Statement(Box::new(alloc, statement)?))
 }
 
-fn while_statement(keyword: Leaf, _: Leaf, condition: Operand, _: Leaf, body: Block) -> Statement
-    ensures { statement_view result ≡ Statements.while_statement (leaf_view keyword.entry).place (operand_view condition).expression (block_view body) }
+fn while_statement(parts: &mut Parts) -> Statement
+    requires { Fits (kinds ActionOf.While) (parts_view parts.now) }
+    ensures { PartData.statement (statement_view result) ≡ node ActionOf.While (parts_view parts.old) }
 {
+    let place = parts.leaf().place;
+    parts.leaf();
+    let condition = parts.expression_part().operand().expression;
+    parts.leaf();
     Statement::While {
-        place: keyword.place,
-        condition: condition.expression,
-        body,
+        place,
+        condition,
+        body: parts.statement_part().block(),
     }
 }
 
-fn do_statement(_: Leaf, body: Block, keyword: Leaf, _: Leaf, condition: Operand) -> Statement
-    ensures { statement_view result ≡ Statements.do_statement (block_view body) (leaf_view keyword.entry).place (operand_view condition).expression }
+fn do_statement(parts: &mut Parts) -> Statement
+    requires { Fits (kinds ActionOf.Do) (parts_view parts.now) }
+    ensures { PartData.statement (statement_view result) ≡ node ActionOf.Do (parts_view parts.old) }
 {
+    parts.leaf();
+    let body = parts.statement_part().block();
+    let place = parts.leaf().place;
+    parts.leaf();
     Statement::DoWhile {
         body,
-        place: keyword.place,
-        condition: condition.expression,
+        place,
+        condition: parts.expression_part().operand().expression,
     }
 }
 
-fn for_statement(
-    keyword: Leaf,
-    _: Leaf,
-    start: Option<ForStart>,
-    _: Leaf,
-    condition: Option<Box<Expression>>,
-    _: Leaf,
-    step: Option<Simple>,
-    _: Leaf,
-    body: Block,
-) -> Statement
-    ensures { statement_view result ≡ Statements.for_statement (leaf_view keyword.entry).place (option_map for_start_view start) (option_map boxed_view condition) (option_map simple_view step) (block_view body) }
+fn for_statement(parts: &mut Parts) -> Statement
+    requires { Fits (kinds ActionOf.For) (parts_view parts.now) }
+    ensures { PartData.statement (statement_view result) ≡ node ActionOf.For (parts_view parts.old) }
 {
+    let place = parts.leaf().place;
+    parts.leaf();
+    let start = parts.statement_part().optional_for_start();
+    parts.leaf();
+    let condition = parts.expression_part().optional_expression();
+    parts.leaf();
+    let step = parts.statement_part().optional_simple();
+    parts.leaf();
     Statement::For {
-        place: keyword.place,
+        place,
         start,
         condition,
         step,
-        body,
+        body: parts.statement_part().block(),
     }
 }
 
-fn switch_statement(
-    keyword: Leaf,
-    _: Leaf,
-    subject: Operand,
-    _: Leaf,
-    _: Leaf,
-    clauses: Chain<Clause>,
-    default: Option<Body>,
-) -> Statement
-    ensures { statement_view result ≡ Statements.switch_statement (leaf_view keyword.entry).place (operand_view subject).expression (StatementViews.clauses_of (map clause_view clauses)) (StatementViews.maybe_body (option_map body_view default)) }
+fn switch_statement(parts: &mut Parts) -> Statement
+    requires { Fits (kinds ActionOf.Switch) (parts_view parts.now) }
+    ensures { PartData.statement (statement_view result) ≡ node ActionOf.Switch (parts_view parts.old) }
 {
+    let place = parts.leaf().place;
+    parts.leaf();
+    let subject = parts.expression_part().operand().expression;
+    parts.leaf();
+    parts.leaf();
+    let clauses = parts.statement_part().clauses();
     Statement::Switch {
-        place: keyword.place,
-        subject: subject.expression,
+        place,
+        subject,
         clauses: clauses.into_vec(),
-        default,
+        default: parts.statement_part().optional_body(),
     }
 }
 
@@ -316,21 +268,20 @@ fn empty(semicolon: Leaf) -> Statement
     }
 }
 
-fn if_node(
-    keyword: Leaf,
-    _: Leaf,
-    condition: Operand,
-    _: Leaf,
-    then: Block,
-    otherwise: Option<Otherwise>,
-) -> If
-    ensures { if_view result ≡ Statements.if_then (leaf_view keyword.entry).place (operand_view condition).expression (block_view then) (StatementViews.maybe_otherwise (option_map otherwise_view otherwise)) }
+fn if_statement(parts: &mut Parts) -> If
+    requires { Fits (kinds ActionOf.If) (parts_view parts.now) }
+    ensures { PartData.if_statement (if_view result) ≡ node ActionOf.If (parts_view parts.old) }
 {
+    let place = parts.leaf().place;
+    parts.leaf();
+    let condition = parts.expression_part().operand().expression;
+    parts.leaf();
+    let then = parts.statement_part().block();
     If {
-        place: keyword.place,
-        condition: condition.expression,
+        place,
+        condition,
         then,
-        otherwise,
+        otherwise: parts.statement_part().otherwise(),
     }
 }
 
@@ -340,21 +291,20 @@ fn otherwise_if(alloc: Global, inner: If) -> Result<StatementPart, AllocError>
     Ok(StatementPart::OtherwiseBranch(Otherwise::If(Box::new(alloc, inner)?)))
 }
 
-fn start_declaration(
-    alloc: Global,
-    specifiers: Chain<Specifier>,
-    pointers: Chain<Pointer>,
-    name: Leaf,
-    sign: Leaf,
-    value: Operand,
-) -> Result<StatementPart, AllocError>
-    ensures { IfOk result (λ part. statement_part_view part ≡ PartData.for_start (Statements.start_declaration (Views.specifiers_of (map specifier_view specifiers)) (pointers_view pointers) (leaf_view name.entry) (leaf_view sign.entry).place (operand_view value).expression)) }
+fn start_declaration(alloc: Global, parts: &mut Parts) -> Result<StatementPart, AllocError>
+    requires { Fits (kinds ActionOf.StartDeclaration) (parts_view parts.now) }
+    ensures { IfOk result (λ part. statement_part_view part ≡ node ActionOf.StartDeclaration (parts_view parts.old)) }
 {
+    let specifiers = parts.declaration_part().specifiers();
+    let pointers = parts.declaration_part().pointers();
+    let name = parts.leaf();
+    let place = parts.leaf().place;
+    let value = parts.expression_part().operand().expression;
     Ok(StatementPart::ForStart(ForStart::Declaration {
         specifiers: specifiers.into_vec(),
         pointers: pointers.into_vec(),
         name: name.word(alloc)?,
-        place: sign.place,
-        value: value.expression,
+        place,
+        value,
     }))
 }

@@ -7,6 +7,7 @@ ghost use Rattle.c_program.specs.StatementViews.{simple_view, leave_view, case_l
 ghost use Rattle.c_parts.specs.PartData;
 ghost use Rattle.c_parts.specs.PartViews.{leaf_view, operand_view, simple_rest_view, statement_part_view, parts_view};
 ghost use Rattle.c_parts.specs.Reading.{Fits};
+ghost use Rattle.c_nodes.specs.declared.switch_nodes.SwitchAction.TheVariants as ActionOf;
 ghost use Rattle.c_nodes.specs.SwitchNodes.{kinds, simple, node};
 
 use c_parts::{AssignmentSign, Chain, Leaf, Operand, Parts, SimpleRest, StatementPart, StepSign};
@@ -73,19 +74,8 @@ pub(crate) fn switch_node(
             Ok(StatementPart::OptionalBody(Some(parts.statement_part().body())))
         },
         SwitchAction::NoDefault => Ok(StatementPart::OptionalBody(None)),
-        SwitchAction::Clause => one_clause(
-            parts.leaf(),
-            parts.expression_part().operand(),
-            parts.leaf(),
-            parts.statement_part().case_labels(),
-            parts.statement_part().body(),
-        ),
-        SwitchAction::CaseLabels => case_labels(
-            parts.leaf(),
-            parts.expression_part().operand(),
-            parts.leaf(),
-            parts.statement_part().case_labels(),
-        ),
+        SwitchAction::Clause => one_clause(parts),
+        SwitchAction::CaseLabels => case_labels(parts),
         SwitchAction::NoCaseLabels => Ok(StatementPart::CaseLabels(Chain::new(alloc))),
         SwitchAction::Body => Ok(StatementPart::Body(body(
             parts.statement_part().statements(),
@@ -128,34 +118,27 @@ fn clauses(one: Clause, mut clauses: Chain<Clause>) -> Result<StatementPart, All
     Ok(StatementPart::Clauses(clauses))
 }
 
-fn one_clause(
-    keyword: Leaf,
-    value: Operand,
-    _: Leaf,
-    mut labels: Chain<CaseLabel>,
-    body: Body,
-) -> Result<StatementPart, AllocError>
-    ensures { IfOk result (λ part. statement_part_view part ≡ PartData.clause (record { labels = record { place = (leaf_view keyword.entry).place; value = (operand_view value).expression } ∷ (map case_label_view labels); body = (body_view body) })) }
+fn one_clause(parts: &mut Parts) -> Result<StatementPart, AllocError>
+    requires { Fits (kinds ActionOf.Clause) (parts_view parts.now) }
+    ensures { IfOk result (λ part. statement_part_view part ≡ node ActionOf.Clause (parts_view parts.old)) }
 {
-    labels.put_front(CaseLabel {
-        place: keyword.place,
-        value: value.expression,
-    })?;
-    Ok(StatementPart::Clause(clause(labels, body)))
+    let place = parts.leaf().place;
+    let value = parts.expression_part().operand().expression;
+    parts.leaf();
+    let mut labels = parts.statement_part().case_labels();
+    labels.put_front(CaseLabel { place, value })?;
+    Ok(StatementPart::Clause(clause(labels, parts.statement_part().body())))
 }
 
-fn case_labels(
-    keyword: Leaf,
-    value: Operand,
-    _: Leaf,
-    mut labels: Chain<CaseLabel>,
-) -> Result<StatementPart, AllocError>
-    ensures { IfOk result (λ part. statement_part_view part ≡ PartData.case_labels ((record { place = (leaf_view keyword.entry).place; value = (operand_view value).expression }) ∷ (map case_label_view labels))) }
+fn case_labels(parts: &mut Parts) -> Result<StatementPart, AllocError>
+    requires { Fits (kinds ActionOf.CaseLabels) (parts_view parts.now) }
+    ensures { IfOk result (λ part. statement_part_view part ≡ node ActionOf.CaseLabels (parts_view parts.old)) }
 {
-    labels.put_front(CaseLabel {
-        place: keyword.place,
-        value: value.expression,
-    })?;
+    let place = parts.leaf().place;
+    let value = parts.expression_part().operand().expression;
+    parts.leaf();
+    let mut labels = parts.statement_part().case_labels();
+    labels.put_front(CaseLabel { place, value })?;
     Ok(StatementPart::CaseLabels(labels))
 }
 

@@ -1,5 +1,5 @@
 -- Expressions, type names and what they hold, as plain data (C11 6.5, 6.7).
-use Rattle.std.specs.Prelude.{ℕ, List, Option}
+use Rattle.std.specs.Prelude.{List, Option}
 use Rattle.misra_base.specs.declared.place.Place.{Place}
 use Rattle.c_program.specs.declared.expression.BinaryOperator.{BinaryOperator}
 use Rattle.c_program.specs.declared.expression.UnaryOperator.{UnaryOperator}

@@ -1,5 +1,5 @@
 -- What the types of declarations and statements stand for.
-use Rattle.std.specs.Prelude.{ℕ, List, [], ◌∷◌, map, Option, None, Some}
+use Rattle.std.specs.Prelude.{List, [], ◌∷◌, map, Option, None, Some}
 use Rattle.std.specs.Option.{option_map}
 use Rattle.c_program.specs.declared.declaration.Initializer.{Initializer, fold-Initializer, Initializer-F}
 use Rattle.c_program.specs.declared.declaration.Initialization.{Initialization}

@@ -1,5 +1,5 @@
 -- Declarations, statements and translation units, as plain data (C11 6.7 to 6.9).
-use Rattle.std.specs.Prelude.{ℕ, Bool, List, Option}
+use Rattle.std.specs.Prelude.{Bool, List, Option}
 use Rattle.misra_base.specs.declared.place.Place.{Place}
 use Rattle.c_program.specs.declared.expression.Word.{Word}
 use Rattle.c_program.specs.declared.statement.AssignmentOperator.{AssignmentOperator}

@@ -1,5 +1,5 @@
 -- What the types of the tree stand for.
-use Rattle.std.specs.Prelude.{ℕ, List, [], ◌∷◌, map, Option, None, Some, Box}
+use Rattle.std.specs.Prelude.{List, [], ◌∷◌, map, Option, None, Some, Box}
 use Rattle.std.specs.declared.alloc.Global.{Global}
 use Rattle.misra_base.specs.declared.place.Place.{Place}
 use Rattle.c_program.specs.declared.expression.BinaryOperator.{BinaryOperator}

@@ -1,4 +1,4 @@
-ghost use Rattle.std.specs.Prelude.{◌≡◌, ◌≢◌, ℕ, ◌+◌, ◌<◌, ◌≤◌, ◌^◌, true, false, Some, None, List, [], ◌∷◌, length, IfOk, IfSome, IfNone, slice_get};
+ghost use Rattle.std.specs.Prelude.{◌≡◌, ◌≢◌, ℕ, ◌+◌, ◌<◌, ◌≤◌, ◌^◌, true, Some, None, List, [], ◌∷◌, length, IfOk, IfSome, IfNone, slice_get};
 ghost use Rattle.ll_core.specs.Members.{has};
 ghost use Rattle.ll_core.specs.Trees.{is_left, right_of};
 ghost use Rattle.ll_core.specs.Sentences.{start_of};

@@ -1,4 +1,4 @@
-ghost use Rattle.std.specs.Prelude.{◌≡◌, ◌≢◌, ℕ, ◌+◌, ◌^◌, ◌<◌, ◌≤◌, List, ◌++◌, ◌∷◌, All, drop, length, map, reverse, Some, OnOk, IfOk, IfErr, Ok, Err};
+ghost use Rattle.std.specs.Prelude.{◌≡◌, ◌≢◌, ℕ, ◌+◌, ◌^◌, ◌<◌, ◌≤◌, List, ◌++◌, ◌∷◌, All, drop, length, reverse, Some, OnOk, IfOk, IfErr, Ok, Err};
 ghost use Rattle.ll_core.specs.Trees.{right_of, deepening, end_of_text};
 ghost use Rattle.ll_core.specs.Predictions.{first_or};
 ghost use Rattle.ll_core.specs.Answers.{IsDerivedWithin, IsOnlyDerivation, IsStop, IsUnlessMemory};

@@ -1,4 +1,4 @@
-ghost use Rattle.std.specs.Prelude.{◌≡◌, ◌≤◌, ℕ, ◌++◌, reverse, Some, OnOk, IfOk};
+ghost use Rattle.std.specs.Prelude.{◌≡◌, ◌≤◌, ◌++◌, reverse, Some, OnOk, IfOk};
 ghost use Rattle.ll_core.specs.Trees.{Forest, right_of, leftmost};
 ghost use Rattle.ll_core.specs.Sentences.{IsDerivation};
 ghost use Rattle.ll_core.specs.Postorder.{IsPostorder, pending_of};

@@ -1,4 +1,4 @@
-ghost use Rattle.std.specs.Prelude.{◌≡◌, ℕ, ◌+◌, ◌<◌, ◌≤◌, ◌^◌, ◌||◌, ◌&&◌, ◌==◌, ◌↔◌, true, false, List, [], ◌∷◌, ◌++◌, Some, length, IfOk, OnOk};
+ghost use Rattle.std.specs.Prelude.{◌≡◌, ℕ, ◌+◌, ◌<◌, ◌≤◌, ◌^◌, ◌||◌, ◌&&◌, ◌==◌, ◌↔◌, true, List, [], ◌∷◌, ◌++◌, Some, length, IfOk, OnOk};
 ghost use Rattle.ll_core.specs.Relations.{has_pair, Extends, Reaches};
 
 use crate::grammar::key;

@@ -1,4 +1,4 @@
-ghost use Rattle.std.specs.Prelude.{◌≡◌, ◌==◌, ◌&&◌, ◌||◌, ◌↔◌, ◌≤◌, ℕ, List, true, IfOk};
+ghost use Rattle.std.specs.Prelude.{◌≡◌, ◌==◌, ◌&&◌, ◌||◌, ◌↔◌, ◌≤◌, ℕ, true, IfOk};
 ghost use Rattle.ll_core.specs.Members.{has};
 ghost use Rattle.ll_core.specs.Relations.{has_pair, composed};
 ghost use Rattle.ll_core.specs.Trees.{is_left, right_of, end_of_text};
