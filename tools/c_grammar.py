@@ -124,7 +124,8 @@ pub static ROWS: [Row; {row_count}] = rows![
 ACTIONS = """//! What each production of the grammar makes of its parts, as tools/c_grammar.py writes it from tools/c_actions.txt.
 
 use c_nodes::{{
-    Action, DeclaratorAction, ExpressionAction, ExternalAction, OperandAction, SpecifierAction, StatementAction, SwitchAction,
+    Action, DeclaratorAction, ExpressionAction, ExternalAction, OperandAction, SpecifierAction,
+    StatementAction, SwitchAction,
 }};
 use c_program::{{AssignmentOperator, BinaryOperator, Keyword, Qualifier, Step, UnaryOperator}};
 
