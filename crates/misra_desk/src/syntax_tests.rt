@@ -1,5 +1,5 @@
 use crate::syntax_rows::rows;
-use crate::tests::{UNLOCK, checked, framed, repeated, show};
+use crate::tests::{checked, framed, framed_rows, repeated, show, whole_rows};
 use c_grammar::tree;
 use c_lexer::tokens;
 use c_printer::print;
@@ -165,6 +165,11 @@ fn show_printed(rt: &impl Abort, alloc: Global, text: &str) -> Result<(), Fail> 
     Ok(())
 }
 
+/// Whether a text has a tree, by what is written for it.
+fn has_tree(output: &str) -> bool {
+    output.starts_with("report") || output.starts_with("refused U0")
+}
+
 #[test]
 fn a_printed_tree_is_read_as_the_same_tree(rt: HostRuntime) -> Result<(), Fail> {
     let alloc = rt.alloc();
@@ -175,16 +180,29 @@ fn a_printed_tree_is_read_as_the_same_tree(rt: HostRuntime) -> Result<(), Fail> 
             show_printed(&rt, alloc, text)?;
         }
     }
-    show_printed(&rt, alloc, UNLOCK)?;
-    show_printed(
-        &rt,
-        alloc,
-        framed(
-            alloc,
-            "    (void)mtx_lock(&m);\n    (void)mtx_unlock(&m);\n",
-        )?
-        .as_str(),
-    )
+    Ok(())
+}
+
+#[test]
+fn a_printed_tree_of_the_form_is_read_as_the_same_tree(rt: HostRuntime) -> Result<(), Fail> {
+    let alloc = rt.alloc();
+    for (lines, output, _) in framed_rows() {
+        if has_tree(output) {
+            show_printed(&rt, alloc, framed(alloc, lines)?.as_str())?;
+        }
+    }
+    Ok(())
+}
+
+#[test]
+fn a_printed_tree_of_a_whole_text_is_read_as_the_same_tree(rt: HostRuntime) -> Result<(), Fail> {
+    let alloc = rt.alloc();
+    for (text, output, _) in whole_rows() {
+        if has_tree(output) {
+            show_printed(&rt, alloc, text)?;
+        }
+    }
+    Ok(())
 }
 
 #[test]
@@ -235,6 +253,7 @@ fn a_tree_keeps_what_its_text_says(rt: HostRuntime) -> Result<(), Fail> {
             printed.as_bytes(),
             "{text}"
         );
+        show_printed(&rt, alloc, text)?;
     }
     Ok(())
 }

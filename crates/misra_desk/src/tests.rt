@@ -5,13 +5,13 @@ use std::alloc::{AllocError, Global};
 use std::process::Abort;
 use std::test::Fail;
 
-pub(crate) const HEAD: &str =
+const HEAD: &str =
     "#include <threads.h>\nstatic mtx_t m;\nint main(void)\n{\n    (void)mtx_init(&m, mtx_plain);\n";
 
-pub(crate) const TAIL: &str = "    return 0;\n}\n";
+const TAIL: &str = "    return 0;\n}\n";
 
 /// The eight lines with an unlock that is found.
-pub(crate) const UNLOCK: &str =
+const UNLOCK: &str =
     "#include <threads.h>\nstatic mtx_t m;\nint main(void)\n{\n    (void)mtx_init(&m, mtx_plain);\n    (void)mtx_unlock(&m);\n    return 0;\n}\n";
 
 const FOUND: &str = "report 1\nR22.17 6:11 main m unlock -\nR22.17 1\nfindings 1\n";
@@ -95,10 +95,10 @@ pub(crate) fn repeated(alloc: Global, piece: &str, count: usize) -> Result<Strin
     Ok(text)
 }
 
-#[test]
-fn texts_of_the_form_are_judged_and_others_refused(rt: HostRuntime) -> Result<(), Fail> {
-    let alloc = rt.alloc();
-    for (lines, output, status) in [
+/// Lines at the end of a whole text, with what is written for it and the status. With the first two the texts are
+/// examples/unlock.c and examples/lock.c.
+pub(crate) fn framed_rows() -> [(&'static str, &'static str, u8); 9] {
+    [
         ("    (void)mtx_unlock(&m);\n", FOUND, 1),
         (
             "    (void)mtx_lock(&m);\n    (void)mtx_unlock(&m);\n",
@@ -124,56 +124,79 @@ fn texts_of_the_form_are_judged_and_others_refused(rt: HostRuntime) -> Result<()
             2,
         ),
         ("    return 00;\n", "refused U0 6:12 not-built\n", 2),
-    ] {
+    ]
+}
+
+#[test]
+fn texts_of_the_form_are_judged_and_others_refused(rt: HostRuntime) -> Result<(), Fail> {
+    let alloc = rt.alloc();
+    for (lines, output, status) in framed_rows() {
         let text = framed(alloc, lines)?;
         show(&rt, alloc, checked(text.as_str(), output, status))?;
     }
     Ok(())
 }
 
-#[test]
-fn a_text_is_refused_where_it_leaves_the_form(rt: HostRuntime) -> Result<(), Fail> {
-    let alloc = rt.alloc();
-    for (text, output) in [
-        ("", "refused U0 1:1 not-built\n"),
-        ("#include <threads.h>", "refused U0 1:21 not-built\n"),
+/// Whole texts, with what is written for them and the status. The first one is examples/empty.c.
+pub(crate) fn whole_rows() -> [(&'static str, &'static str, u8); 21] {
+    [
+        ("", "refused U0 1:1 not-built\n", 2),
+        ("#include <threads.h>", "refused U0 1:21 not-built\n", 2),
         (
             "#include <threads.h>\n#include <stdint.h>\n",
             "refused U0 3:1 not-built\n",
+            2,
         ),
-        ("static mtx_t $;\n", "refused U1 1:14 byte-24\n"),
-        ("int $x;", "refused U1 1:5 byte-24\n"),
-        ("/* x", "refused U2 1:1 comment\n"),
-        ("#define N 4", "refused U3 1:1 define\n"),
-        ("static int x = 09;", "refused U4 1:16 literal\n"),
+        ("static mtx_t $;\n", "refused U1 1:14 byte-24\n", 2),
+        ("int $x;", "refused U1 1:5 byte-24\n", 2),
+        ("/* x", "refused U2 1:1 comment\n", 2),
+        ("#define N 4", "refused U3 1:1 define\n", 2),
+        ("static int x = 09;", "refused U4 1:16 literal\n", 2),
         (
             "int main(void) { return 00; } $",
             "refused U1 1:31 byte-24\n",
+            2,
         ),
-        ("static mtx_t int;\n", "refused U0 1:14 not-built\n"),
-        ("static mtx_t mtx_lock;\n", "refused U0 1:14 not-built\n"),
-        ("static mtx_t main;\n", "refused U0 1:14 not-built\n"),
+        ("static mtx_t int;\n", "refused U0 1:14 not-built\n", 2),
+        ("static mtx_t mtx_lock;\n", "refused U0 1:14 not-built\n", 2),
+        ("static mtx_t main;\n", "refused U0 1:14 not-built\n", 2),
         (
             "static mtx_t a;\nstatic mtx_t a;\n",
             "refused U0 2:14 not-built\n",
+            2,
         ),
-        ("static mtx_t a, b;\n", "refused U0 1:15 not-built\n"),
+        ("static mtx_t a, b;\n", "refused U0 1:15 not-built\n", 2),
         (
             "int main(void)\n{\n    (void)mtx_lock(&m);\n",
             "refused U7 4:1 end\n",
+            2,
         ),
-        ("int main(void)\n{\n    return 0", "refused U7 3:13 end\n"),
-        ("int main(void) { return 0; }\n;", "refused U7 2:1 ;\n"),
-    ] {
-        show(&rt, alloc, checked(text, output, 2))?;
-    }
-    for text in [
-        "int main(void) { return 0; } \n ",
-        "int\tmain ( void ){return 0;}",
-        "#include <threads.h> \nint main(void) { return 0; }",
-        "/* $ */ int main(void) // 09\n# 12 \"x\"\n{ return\x0c\r\n0; }",
-    ] {
-        show(&rt, alloc, checked(text, CLEAN, 0))?;
+        (
+            "int main(void)\n{\n    return 0",
+            "refused U7 3:13 end\n",
+            2,
+        ),
+        ("int main(void) { return 0; }\n;", "refused U7 2:1 ;\n", 2),
+        ("int main(void) { return 0; } \n ", CLEAN, 0),
+        ("int\tmain ( void ){return 0;}", CLEAN, 0),
+        (
+            "#include <threads.h> \nint main(void) { return 0; }",
+            CLEAN,
+            0,
+        ),
+        (
+            "/* $ */ int main(void) // 09\n# 12 \"x\"\n{ return\x0c\r\n0; }",
+            CLEAN,
+            0,
+        ),
+    ]
+}
+
+#[test]
+fn a_text_is_refused_where_it_leaves_the_form(rt: HostRuntime) -> Result<(), Fail> {
+    let alloc = rt.alloc();
+    for (text, output, status) in whole_rows() {
+        show(&rt, alloc, checked(text, output, status))?;
     }
     Ok(())
 }
