@@ -7,7 +7,7 @@ use Rattle.c_lexer.specs.Limits.{lexical_fault}
 use Rattle.c_lexer.specs.Tokens.{tokens_of}
 use Rattle.c_grammar.specs.declared.tables.TheConstants.{PRODUCTIONS}
 use Rattle.ll_core.specs.Answers.{IsDerivedWithin}
-use Rattle.c_program.specs.Statements.{ExternalData}
+use Rattle.c_rawtree.specs.Statements.{ExternalData}
 use Rattle.c_grammar.specs.Syntax.{classes_of, StopsBySyntax}
 use Rattle.c_grammar.specs.Trees.{IsTree}
 use Rattle.c_grammar.proofs.OneFault.{no_syntax_fault}

@@ -2,7 +2,7 @@
 use Rattle.std.proofs.Common.{◌≡◌, ◌∙◌, ◌≤◌, ℕ, List, [], ◌∷◌, length, reverse, sym, ap, subst, arith}
 use Rattle.std.proofs.lemmas.List.{length-map, reverse-reverse}
 use Rattle.c_lexer.specs.declared.token.Token.{Token}
-use Rattle.c_program.specs.Statements.{ExternalData}
+use Rattle.c_rawtree.specs.Statements.{ExternalData}
 use Rattle.c_parts.specs.PartData
 use Rattle.c_parts.specs.Reading.{first, externals_of}
 use Rattle.ll_core.specs.declared.reductions.Event.{Event}

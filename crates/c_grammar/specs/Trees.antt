@@ -2,8 +2,8 @@
 use Rattle.std.specs.Prelude.{◌≡◌, ℕ, zero, suc, List, [], ◌∷◌, ◌++◌, map, reverse, Option, Some, None, slice_get}
 use Rattle.c_lexer.specs.declared.token.Token.{Token}
 use Rattle.c_lexer.specs.Slices.{token_text}
-use Rattle.c_program.specs.declared.expression.Word.{Word}
-use Rattle.c_program.specs.Statements.{ExternalData}
+use Rattle.c_rawtree.specs.declared.expression.Word.{Word}
+use Rattle.c_rawtree.specs.Statements.{ExternalData}
 use Rattle.c_parts.specs.declared.part.Part.{Part}
 use Rattle.c_parts.specs.Kinds
 use Rattle.c_parts.specs.PartData

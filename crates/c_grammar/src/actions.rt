@@ -4,7 +4,7 @@ use c_nodes::{
     Action, DeclaratorAction, ExpressionAction, ExternalAction, OperandAction, SpecifierAction,
     StatementAction, SwitchAction,
 };
-use c_program::{AssignmentOperator, BinaryOperator, Keyword, Qualifier, Step, UnaryOperator};
+use c_rawtree::{AssignmentOperator, BinaryOperator, Keyword, Qualifier, Step, UnaryOperator};
 
 /// What each production makes, in the order of the productions.
 #[rattlefmt::skip]

@@ -1,7 +1,7 @@
 ghost use Rattle.std.specs.Prelude.{◌≡◌, ◌≤◌, ◌<◌, ◌∷◌, [], map, All, length, take, drop, reverse, Some, slice_get, IfOk, IfErr, OnOk};
 ghost use Rattle.ll_core.specs.Folds.{run_steps, size_in};
 ghost use Rattle.c_lexer.specs.Slices.{IsWithin};
-ghost use Rattle.c_program.specs.StatementViews.{external_view, tree_view};
+ghost use Rattle.c_rawtree.specs.StatementViews.{external_view, tree_view};
 ghost use Rattle.c_parts.specs.Kinds;
 ghost use Rattle.c_parts.specs.PartViews.{part_view, leaf_view};
 ghost use Rattle.c_parts.specs.Reading.{kind_of};
@@ -15,7 +15,7 @@ use crate::syntax::derivation;
 use c_lexer::Token;
 use c_nodes::{Action, part};
 use c_parts::{Leaf, Part, Parts};
-use c_program::{External, Tree};
+use c_rawtree::{External, Tree};
 use ll_core::{Event, postorder};
 use misra_base::CheckStop;
 use std::alloc::{AllocError, Global};

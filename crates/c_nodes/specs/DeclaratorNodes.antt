@@ -1,10 +1,10 @@
 -- What the productions of declarators and initialisers make of their parts.
 use Rattle.std.specs.Prelude.{List, [], ◌∷◌, Some, None}
-use Rattle.c_program.specs.declared.expression.Word.{Word}
-use Rattle.c_program.specs.Expressions
-use Rattle.c_program.specs.Statements
-use Rattle.c_program.specs.Views
-use Rattle.c_program.specs.StatementViews
+use Rattle.c_rawtree.specs.declared.expression.Word.{Word}
+use Rattle.c_rawtree.specs.Expressions
+use Rattle.c_rawtree.specs.Statements
+use Rattle.c_rawtree.specs.Views
+use Rattle.c_rawtree.specs.StatementViews
 use Rattle.c_parts.specs.Kinds
 use Rattle.c_parts.specs.PartData
 use Rattle.c_parts.specs.Reading.{part, bounds_of, init_declarators_of, initialization_of, initializer_of, initializers_of, leaf_of, objects_of, operand_of, optional_expression_of, pointers_of, qualifiers_of}

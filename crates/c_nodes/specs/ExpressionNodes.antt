@@ -1,8 +1,8 @@
 -- What the productions of expressions make of their parts.
 use Rattle.std.specs.Prelude.{true, List, [], ◌∷◌, Some, None}
 use Rattle.misra_base.specs.declared.place.Place.{Place}
-use Rattle.c_program.specs.Expressions
-use Rattle.c_program.specs.Views
+use Rattle.c_rawtree.specs.Expressions
+use Rattle.c_rawtree.specs.Views
 use Rattle.c_parts.specs.Kinds
 use Rattle.c_parts.specs.PartData
 use Rattle.c_parts.specs.Reading.{part, arguments_of, bracketed_of, infix_operator_of, leaf_of, operand_of, operations_of, pointers_of, postfix_of, postfixes_of, prefix_operator_of, sizeof_operand_of, specifiers_of, type_name_of}

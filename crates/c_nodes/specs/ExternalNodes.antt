@@ -1,9 +1,9 @@
 -- What the productions of external declarations make of their parts.
 use Rattle.std.specs.Prelude.{List, [], ◌∷◌, Some, None}
-use Rattle.c_program.specs.declared.expression.Word.{Word}
-use Rattle.c_program.specs.Expressions
-use Rattle.c_program.specs.Statements
-use Rattle.c_program.specs.Views
+use Rattle.c_rawtree.specs.declared.expression.Word.{Word}
+use Rattle.c_rawtree.specs.Expressions
+use Rattle.c_rawtree.specs.Statements
+use Rattle.c_rawtree.specs.Views
 use Rattle.c_parts.specs.Kinds
 use Rattle.c_parts.specs.PartData
 use Rattle.c_parts.specs.Reading.{part, block_of, external_of, external_rest_of, externals_of, function_rest_of, leaf_of, name_rest_of, objects_of, optional_block_of, optional_bound_of, optional_expression_of, parameter_name_of, parameter_of, parameters_of, pointers_of, specifiers_of}

@@ -1,7 +1,7 @@
 -- What the productions that an operand goes through make of their parts.
 use Rattle.std.specs.Prelude.{false, List, [], ◌∷◌, Option, Some, None}
-use Rattle.c_program.specs.Expressions
-use Rattle.c_program.specs.Views
+use Rattle.c_rawtree.specs.Expressions
+use Rattle.c_rawtree.specs.Views
 use Rattle.c_parts.specs.Kinds
 use Rattle.c_parts.specs.PartData
 use Rattle.c_parts.specs.Reading.{part, branches_of, leaf_of, operand_of, operations_of, postfixes_of}

@@ -1,9 +1,9 @@
 -- What the productions of declaration specifiers make of their parts.
 use Rattle.std.specs.Prelude.{List, [], ◌∷◌, Option, Some, None}
 use Rattle.misra_base.specs.declared.place.Place.{Place}
-use Rattle.c_program.specs.declared.expression.Word.{Word}
-use Rattle.c_program.specs.Expressions
-use Rattle.c_program.specs.Views
+use Rattle.c_rawtree.specs.declared.expression.Word.{Word}
+use Rattle.c_rawtree.specs.Expressions
+use Rattle.c_rawtree.specs.Views
 use Rattle.c_parts.specs.Kinds
 use Rattle.c_parts.specs.PartData
 use Rattle.c_parts.specs.Reading.{part, declarator_of, declarators_of, enumeration_of, enumerators_of, leaf_of, members_of, optional_enumerators_of, optional_expression_of, optional_members_of, specifier_of, specifiers_of, structure_of}

@@ -1,8 +1,8 @@
 -- What the productions of statements make of their parts.
 use Rattle.std.specs.Prelude.{List, [], ◌∷◌, Some, None}
-use Rattle.c_program.specs.Statements
-use Rattle.c_program.specs.Views
-use Rattle.c_program.specs.StatementViews
+use Rattle.c_rawtree.specs.Statements
+use Rattle.c_rawtree.specs.Views
+use Rattle.c_rawtree.specs.StatementViews
 use Rattle.c_parts.specs.Kinds
 use Rattle.c_parts.specs.PartData
 use Rattle.c_parts.specs.Reading.{part, block_of, clauses_of, for_start_of, if_statement_of, init_declarators_of, item_of, items_of, leaf_of, leave_of, operand_of, optional_body_of, optional_expression_of, optional_for_start_of, optional_simple_of, otherwise_branch_of, otherwise_of, pointers_of, simple_of, specifiers_of, statement_of}

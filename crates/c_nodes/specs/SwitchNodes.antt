@@ -1,7 +1,7 @@
 -- What the productions of clauses of a `switch`, jumps, assignments and steps make of their parts.
 use Rattle.std.specs.Prelude.{List, [], ◌∷◌, Option, Some, None}
-use Rattle.c_program.specs.Statements
-use Rattle.c_program.specs.StatementViews
+use Rattle.c_rawtree.specs.Statements
+use Rattle.c_rawtree.specs.StatementViews
 use Rattle.c_parts.specs.Kinds
 use Rattle.c_parts.specs.PartData
 use Rattle.c_parts.specs.Reading.{part, assignment_sign_of, body_of, case_labels_of, clause_of, clauses_of, leaf_of, leave_of, operand_of, optional_expression_of, simple_rest_of, statement_of, statements_of, step_sign_of}

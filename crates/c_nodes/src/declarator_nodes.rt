@@ -1,11 +1,11 @@
 ghost use Rattle.std.specs.Prelude.{◌≡◌, ◌∷◌, map, IfOk, Some};
 ghost use Rattle.std.specs.Option.{option_map};
-ghost use Rattle.c_program.specs.Expressions;
-ghost use Rattle.c_program.specs.Statements;
-ghost use Rattle.c_program.specs.Views;
-ghost use Rattle.c_program.specs.Views.{pointers_view, boxed_view, declarator_view, bound_view};
-ghost use Rattle.c_program.specs.StatementViews;
-ghost use Rattle.c_program.specs.StatementViews.{initializer_view, initialization_view, init_declarator_view};
+ghost use Rattle.c_rawtree.specs.Expressions;
+ghost use Rattle.c_rawtree.specs.Statements;
+ghost use Rattle.c_rawtree.specs.Views;
+ghost use Rattle.c_rawtree.specs.Views.{pointers_view, boxed_view, declarator_view, bound_view};
+ghost use Rattle.c_rawtree.specs.StatementViews;
+ghost use Rattle.c_rawtree.specs.StatementViews.{initializer_view, initialization_view, init_declarator_view};
 ghost use Rattle.c_parts.specs.PartData;
 ghost use Rattle.c_parts.specs.PartViews.{leaf_view, objects_view, declaration_part_view, parts_view};
 ghost use Rattle.c_parts.specs.Reading.{Fits};
@@ -13,7 +13,7 @@ ghost use Rattle.c_nodes.specs.declared.declarator_nodes.DeclaratorAction.TheVar
 ghost use Rattle.c_nodes.specs.DeclaratorNodes.{kinds, all_declarators, node};
 
 use c_parts::{Chain, DeclarationPart, Leaf, Objects, Parts};
-use c_program::{
+use c_rawtree::{
     Bound, Declarator, Expression, InitDeclarator, Initialization, Initializer, Pointer, Qualifier,
 };
 use std::alloc::{AllocError, Global};

@@ -1,7 +1,7 @@
 ghost use Rattle.std.specs.Prelude.{◌≡◌, ◌∷◌, map, IfOk, Some};
-ghost use Rattle.c_program.specs.Expressions;
-ghost use Rattle.c_program.specs.Views;
-ghost use Rattle.c_program.specs.Views.{pointers_view, operation_view, type_name_view, specifier_view};
+ghost use Rattle.c_rawtree.specs.Expressions;
+ghost use Rattle.c_rawtree.specs.Views;
+ghost use Rattle.c_rawtree.specs.Views.{pointers_view, operation_view, type_name_view, specifier_view};
 ghost use Rattle.c_parts.specs.PartData;
 ghost use Rattle.c_parts.specs.PartViews.{leaf_view, operand_view, branches_view, sizeof_operand_view, bracketed_view, expression_part_view, parts_view};
 ghost use Rattle.c_parts.specs.Reading.{Fits};
@@ -15,7 +15,7 @@ use c_parts::{
     AssignmentSign, Bracketed, Branches, Chain, ExpressionPart, InfixOperator, Leaf, Operand,
     Parts, PrefixOperator, SizeofOperand, StepSign,
 };
-use c_program::{
+use c_rawtree::{
     AssignmentOperator, BinaryOperator, Expression, Operation, Pointer, Specifier, Step, TypeName,
     UnaryOperator,
 };

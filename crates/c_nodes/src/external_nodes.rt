@@ -1,9 +1,9 @@
 ghost use Rattle.std.specs.Prelude.{◌≡◌, ◌∷◌, map, IfOk, Some};
 ghost use Rattle.std.specs.Option.{option_map};
-ghost use Rattle.c_program.specs.Expressions;
-ghost use Rattle.c_program.specs.Views;
-ghost use Rattle.c_program.specs.Views.{pointers_view, boxed_view, specifier_view, bound_view};
-ghost use Rattle.c_program.specs.StatementViews.{parameter_view, external_view};
+ghost use Rattle.c_rawtree.specs.Expressions;
+ghost use Rattle.c_rawtree.specs.Views;
+ghost use Rattle.c_rawtree.specs.Views.{pointers_view, boxed_view, specifier_view, bound_view};
+ghost use Rattle.c_rawtree.specs.StatementViews.{parameter_view, external_view};
 ghost use Rattle.c_parts.specs.PartData;
 ghost use Rattle.c_parts.specs.PartViews.{leaf_view, parameter_name_view, name_rest_view, external_rest_view, external_part_view, parts_view};
 ghost use Rattle.c_parts.specs.Reading.{Fits};
@@ -14,7 +14,7 @@ use crate::declarator_nodes::all_declarators;
 use c_parts::{
     Chain, ExternalPart, ExternalRest, FunctionRest, Leaf, NameRest, ParameterName, Parts,
 };
-use c_program::{
+use c_rawtree::{
     Bound, Declaration, Expression, External, Function, Parameter, Pointer, Specifier,
     TypeDefinition,
 };

@@ -1,14 +1,14 @@
 ghost use Rattle.std.specs.Prelude.{◌≡◌, map, IfOk};
 ghost use Rattle.std.specs.Option.{option_map};
-ghost use Rattle.c_program.specs.Expressions;
-ghost use Rattle.c_program.specs.Views.{expression_view, operation_view, postfix_view};
+ghost use Rattle.c_rawtree.specs.Expressions;
+ghost use Rattle.c_rawtree.specs.Views.{expression_view, operation_view, postfix_view};
 ghost use Rattle.c_parts.specs.PartData;
 ghost use Rattle.c_parts.specs.PartViews.{leaf_view, operand_view, branches_view, expression_part_view, parts_view};
 ghost use Rattle.c_parts.specs.Reading.{Fits};
 ghost use Rattle.c_nodes.specs.OperandNodes.{kinds, plain, binary, conditional, postfixed, node};
 
 use c_parts::{Branches, Chain, ExpressionPart, Leaf, Operand, Parts};
-use c_program::{Expression, Operation, Postfix};
+use c_rawtree::{Expression, Operation, Postfix};
 use std::alloc::{AllocError, Global};
 
 /// What a production that an operand goes through makes of its parts. These are by far the most frequent actions, so

@@ -1,7 +1,7 @@
 ghost use Rattle.std.specs.Prelude.{◌≡◌, ◌∷◌, map, IfOk};
-ghost use Rattle.c_program.specs.Expressions;
-ghost use Rattle.c_program.specs.Views;
-ghost use Rattle.c_program.specs.Views.{expression_view, postfix_view};
+ghost use Rattle.c_rawtree.specs.Expressions;
+ghost use Rattle.c_rawtree.specs.Views;
+ghost use Rattle.c_rawtree.specs.Views.{expression_view, postfix_view};
 ghost use Rattle.c_parts.specs.PartData;
 ghost use Rattle.c_parts.specs.PartViews.{leaf_view, operand_view, expression_part_view};
 ghost use Rattle.c_nodes.specs.OperandNodes.{postfixed};
@@ -9,7 +9,7 @@ ghost use Rattle.c_nodes.specs.ExpressionNodes.{bracketed};
 
 use crate::operand_nodes::postfixed;
 use c_parts::{Bracketed, Chain, ExpressionPart, Leaf, Operand};
-use c_program::{Expression, Postfix};
+use c_rawtree::{Expression, Postfix};
 use std::alloc::{AllocError, Global};
 
 pub(crate) fn postfixes(

@@ -1,8 +1,8 @@
 ghost use Rattle.std.specs.Prelude.{◌≡◌, ◌∷◌, map, IfOk};
 ghost use Rattle.std.specs.Option.{option_map};
-ghost use Rattle.c_program.specs.Expressions;
-ghost use Rattle.c_program.specs.Views;
-ghost use Rattle.c_program.specs.Views.{boxed_view, member_view, enumerator_view, specifier_view, declarator_view};
+ghost use Rattle.c_rawtree.specs.Expressions;
+ghost use Rattle.c_rawtree.specs.Views;
+ghost use Rattle.c_rawtree.specs.Views.{boxed_view, member_view, enumerator_view, specifier_view, declarator_view};
 ghost use Rattle.c_parts.specs.PartData;
 ghost use Rattle.c_parts.specs.PartViews.{leaf_view, structure_view, enumeration_view, declaration_part_view, parts_view};
 ghost use Rattle.c_parts.specs.Reading.{Fits};
@@ -10,7 +10,7 @@ ghost use Rattle.c_nodes.specs.declared.specifier_nodes.SpecifierAction.TheVaria
 ghost use Rattle.c_nodes.specs.SpecifierNodes.{kinds, tagged_structure, struct_specifier, tagged_enumeration, enum_specifier, node};
 
 use c_parts::{Chain, DeclarationPart, Enumeration, Leaf, Parts, Structure};
-use c_program::{Declarator, Enumerator, Expression, Keyword, MemberDeclaration, Specifier, Word};
+use c_rawtree::{Declarator, Enumerator, Expression, Keyword, MemberDeclaration, Specifier, Word};
 use misra_base::Place;
 use std::alloc::{AllocError, Global};
 

@@ -1,9 +1,9 @@
 ghost use Rattle.std.specs.Prelude.{◌≡◌, ◌∷◌, map, IfOk};
-ghost use Rattle.c_program.specs.Statements;
-ghost use Rattle.c_program.specs.Views;
-ghost use Rattle.c_program.specs.Views.{specifier_view};
-ghost use Rattle.c_program.specs.StatementViews;
-ghost use Rattle.c_program.specs.StatementViews.{declaration_view, init_declarator_view, statement_view, block_view, item_view, if_view};
+ghost use Rattle.c_rawtree.specs.Statements;
+ghost use Rattle.c_rawtree.specs.Views;
+ghost use Rattle.c_rawtree.specs.Views.{specifier_view};
+ghost use Rattle.c_rawtree.specs.StatementViews;
+ghost use Rattle.c_rawtree.specs.StatementViews.{declaration_view, init_declarator_view, statement_view, block_view, item_view, if_view};
 ghost use Rattle.c_parts.specs.PartData;
 ghost use Rattle.c_parts.specs.PartViews.{leaf_view, statement_part_view, parts_view};
 ghost use Rattle.c_parts.specs.Reading.{Fits};
@@ -11,7 +11,7 @@ ghost use Rattle.c_nodes.specs.declared.statement_nodes.StatementAction.TheVaria
 ghost use Rattle.c_nodes.specs.StatementNodes.{kinds, node};
 
 use c_parts::{Chain, Leaf, Parts, StatementPart};
-use c_program::{
+use c_rawtree::{
     Block, Declaration, ForStart, If, InitDeclarator, Item, Leave, Otherwise, Simple, Specifier,
     Statement,
 };

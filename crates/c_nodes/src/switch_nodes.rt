@@ -1,9 +1,9 @@
 ghost use Rattle.std.specs.Prelude.{◌≡◌, ◌∷◌, map, IfOk, Some};
 ghost use Rattle.std.specs.Option.{option_map};
-ghost use Rattle.c_program.specs.Statements;
-ghost use Rattle.c_program.specs.Views.{boxed_view};
-ghost use Rattle.c_program.specs.StatementViews;
-ghost use Rattle.c_program.specs.StatementViews.{simple_view, leave_view, case_label_view, statement_view, body_view, clause_view};
+ghost use Rattle.c_rawtree.specs.Statements;
+ghost use Rattle.c_rawtree.specs.Views.{boxed_view};
+ghost use Rattle.c_rawtree.specs.StatementViews;
+ghost use Rattle.c_rawtree.specs.StatementViews.{simple_view, leave_view, case_label_view, statement_view, body_view, clause_view};
 ghost use Rattle.c_parts.specs.PartData;
 ghost use Rattle.c_parts.specs.PartViews.{leaf_view, operand_view, simple_rest_view, statement_part_view, parts_view};
 ghost use Rattle.c_parts.specs.Reading.{Fits};
@@ -11,7 +11,7 @@ ghost use Rattle.c_nodes.specs.declared.switch_nodes.SwitchAction.TheVariants as
 ghost use Rattle.c_nodes.specs.SwitchNodes.{kinds, simple, node};
 
 use c_parts::{AssignmentSign, Chain, Leaf, Operand, Parts, SimpleRest, StatementPart, StepSign};
-use c_program::{Body, CaseLabel, Clause, Expression, Leave, Simple, Statement, Step};
+use c_rawtree::{Body, CaseLabel, Clause, Expression, Leave, Simple, Statement, Step};
 use std::alloc::{AllocError, Global};
 
 /// What a production of clauses of a `switch`, jumps, assignments and steps makes of its parts.

@@ -1,14 +1,14 @@
 -- The parts of which the tree of a text is made, as plain data.
 use Rattle.std.specs.Prelude.{Bool, List, Option}
 use Rattle.misra_base.specs.declared.place.Place.{Place}
-use Rattle.c_program.specs.declared.expression.Word.{Word}
-use Rattle.c_program.specs.declared.expression.Qualifier.{Qualifier}
-use Rattle.c_program.specs.Expressions
-use Rattle.c_program.specs.Statements
-use Rattle.c_program.specs.Views.{OneOperation, OneMember, OneEnumerator}
-use Rattle.c_program.specs.StatementViews.{OneClause}
-use Rattle.c_program.specs.declared.statement.AssignmentOperator.{AssignmentOperator}
-use Rattle.c_program.specs.declared.statement.Step.{Step}
+use Rattle.c_rawtree.specs.declared.expression.Word.{Word}
+use Rattle.c_rawtree.specs.declared.expression.Qualifier.{Qualifier}
+use Rattle.c_rawtree.specs.Expressions
+use Rattle.c_rawtree.specs.Statements
+use Rattle.c_rawtree.specs.Views.{OneOperation, OneMember, OneEnumerator}
+use Rattle.c_rawtree.specs.StatementViews.{OneClause}
+use Rattle.c_rawtree.specs.declared.statement.AssignmentOperator.{AssignmentOperator}
+use Rattle.c_rawtree.specs.declared.statement.Step.{Step}
 use Rattle.c_parts.specs.declared.expression_part.InfixOperator.{InfixOperator}
 use Rattle.c_parts.specs.declared.expression_part.PrefixOperator.{PrefixOperator}
 use Rattle.c_parts.specs.declared.expression_part.AssignmentSign.{AssignmentSign}

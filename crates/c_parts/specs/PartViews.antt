@@ -1,9 +1,9 @@
 -- What the parts stand for.
 use Rattle.std.specs.Prelude.{List, map, Option}
 use Rattle.std.specs.Option.{option_map}
-use Rattle.c_program.specs.declared.expression.Word.{Word}
-use Rattle.c_program.specs.Views.{boxed_view, expression_view, operation_view, postfix_view, type_name_view, specifier_view, pointers_view, bound_view, declarator_view, member_view, enumerator_view}
-use Rattle.c_program.specs.StatementViews.{initializer_view, initialization_view, init_declarator_view, parameter_view, block_view, item_view, statement_view, if_view, otherwise_view, for_start_view, simple_view, case_label_view, clause_view, body_view, leave_view, external_view}
+use Rattle.c_rawtree.specs.declared.expression.Word.{Word}
+use Rattle.c_rawtree.specs.Views.{boxed_view, expression_view, operation_view, postfix_view, type_name_view, specifier_view, pointers_view, bound_view, declarator_view, member_view, enumerator_view}
+use Rattle.c_rawtree.specs.StatementViews.{initializer_view, initialization_view, init_declarator_view, parameter_view, block_view, item_view, statement_view, if_view, otherwise_view, for_start_view, simple_view, case_label_view, clause_view, body_view, leave_view, external_view}
 use Rattle.c_parts.specs.PartData
 use Rattle.c_parts.specs.declared.leaf.Leaf.{Leaf}
 use Rattle.c_parts.specs.declared.expression_part.Operand.{Operand}

@@ -1,16 +1,16 @@
 -- The kind of a part, and what is read of it: where it is of another kind, nothing that matters.
 use Rattle.std.specs.Prelude.{◌≡◌, ℕ, zero, suc, false, List, [], ◌∷◌, Option, None}
 use Rattle.misra_base.specs.declared.place.Place.{Place}
-use Rattle.c_program.specs.declared.expression.Word.{Word}
-use Rattle.c_program.specs.declared.expression.Qualifier.{Qualifier}
-use Rattle.c_program.specs.declared.expression.BinaryOperator.TheVariants.{Add}
-use Rattle.c_program.specs.declared.expression.UnaryOperator.TheVariants as UnaryOf
-use Rattle.c_program.specs.declared.statement.AssignmentOperator.TheVariants.{Assign}
-use Rattle.c_program.specs.declared.statement.Step.TheVariants.{Increment}
-use Rattle.c_program.specs.Expressions
-use Rattle.c_program.specs.Statements
-use Rattle.c_program.specs.Views.{OneOperation, OneMember, OneEnumerator}
-use Rattle.c_program.specs.StatementViews.{OneClause}
+use Rattle.c_rawtree.specs.declared.expression.Word.{Word}
+use Rattle.c_rawtree.specs.declared.expression.Qualifier.{Qualifier}
+use Rattle.c_rawtree.specs.declared.expression.BinaryOperator.TheVariants.{Add}
+use Rattle.c_rawtree.specs.declared.expression.UnaryOperator.TheVariants as UnaryOf
+use Rattle.c_rawtree.specs.declared.statement.AssignmentOperator.TheVariants.{Assign}
+use Rattle.c_rawtree.specs.declared.statement.Step.TheVariants.{Increment}
+use Rattle.c_rawtree.specs.Expressions
+use Rattle.c_rawtree.specs.Statements
+use Rattle.c_rawtree.specs.Views.{OneOperation, OneMember, OneEnumerator}
+use Rattle.c_rawtree.specs.StatementViews.{OneClause}
 use Rattle.c_parts.specs.declared.expression_part.InfixOperator.{InfixOperator}
 use Rattle.c_parts.specs.declared.expression_part.PrefixOperator.{PrefixOperator}
 use Rattle.c_parts.specs.declared.expression_part.AssignmentSign.{AssignmentSign}

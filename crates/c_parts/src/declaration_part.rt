@@ -1,14 +1,14 @@
 ghost use Rattle.std.specs.Prelude.{◌≡◌, map};
 ghost use Rattle.std.specs.Option.{option_map};
-ghost use Rattle.c_program.specs.Views.{bound_view, declarator_view, enumerator_view, member_view, pointers_view, specifier_view};
-ghost use Rattle.c_program.specs.StatementViews.{init_declarator_view, initialization_view, initializer_view};
+ghost use Rattle.c_rawtree.specs.Views.{bound_view, declarator_view, enumerator_view, member_view, pointers_view, specifier_view};
+ghost use Rattle.c_rawtree.specs.StatementViews.{init_declarator_view, initialization_view, initializer_view};
 ghost use Rattle.c_parts.specs.Kinds;
 ghost use Rattle.c_parts.specs.PartData;
 ghost use Rattle.c_parts.specs.PartViews.{declaration_part_view, enumeration_view, objects_view, structure_view};
 ghost use Rattle.c_parts.specs.Reading.{kind_of, qualifiers_of, pointers_of, specifier_of, specifiers_of, bounds_of, declarator_of, declarators_of, members_of, optional_members_of, structure_of, enumerators_of, optional_enumerators_of, enumeration_of, initializer_of, initializers_of, initialization_of, init_declarators_of, objects_of};
 
 use crate::chain::Chain;
-use c_program::{
+use c_rawtree::{
     Bound, Declarator, Enumerator, InitDeclarator, Initialization, Initializer, MemberDeclaration,
     Pointer, Qualifier, Specifier, Word,
 };

@@ -1,13 +1,13 @@
 ghost use Rattle.std.specs.Prelude.{◌≡◌, map};
 ghost use Rattle.std.specs.Option.{option_map};
-ghost use Rattle.c_program.specs.Views.{boxed_view, expression_view, operation_view, postfix_view, type_name_view};
+ghost use Rattle.c_rawtree.specs.Views.{boxed_view, expression_view, operation_view, postfix_view, type_name_view};
 ghost use Rattle.c_parts.specs.Kinds;
 ghost use Rattle.c_parts.specs.PartData;
 ghost use Rattle.c_parts.specs.PartViews.{expression_part_view, bracketed_view, branches_view, operand_view, sizeof_operand_view};
 ghost use Rattle.c_parts.specs.Reading.{kind_of, operand_of, optional_expression_of, infix_operator_of, operations_of, prefix_operator_of, postfix_of, postfixes_of, arguments_of, type_name_of, branches_of, sizeof_operand_of, bracketed_of, assignment_sign_of, step_sign_of};
 
 use crate::chain::Chain;
-use c_program::{
+use c_rawtree::{
     AssignmentOperator, BinaryOperator, Expression, Operation, Postfix, Step, TypeName,
     UnaryOperator,
 };

@@ -1,7 +1,7 @@
 ghost use Rattle.std.specs.Prelude.{◌≡◌, map};
 ghost use Rattle.std.specs.Option.{option_map};
-ghost use Rattle.c_program.specs.Views.{bound_view};
-ghost use Rattle.c_program.specs.StatementViews.{block_view, external_view, parameter_view};
+ghost use Rattle.c_rawtree.specs.Views.{bound_view};
+ghost use Rattle.c_rawtree.specs.StatementViews.{block_view, external_view, parameter_view};
 ghost use Rattle.c_parts.specs.Kinds;
 ghost use Rattle.c_parts.specs.PartData;
 ghost use Rattle.c_parts.specs.PartViews.{external_part_view, external_rest_view, function_rest_view, name_rest_view, parameter_name_view};
@@ -9,7 +9,7 @@ ghost use Rattle.c_parts.specs.Reading.{kind_of, optional_bound_of, parameter_na
 
 use crate::chain::Chain;
 use crate::declaration_part::Objects;
-use c_program::{Block, Bound, External, InitDeclarator, Parameter, Pointer, Word};
+use c_rawtree::{Block, Bound, External, InitDeclarator, Parameter, Pointer, Word};
 
 /// The name and the bound of a parameter.
 #[derive(Drop)]

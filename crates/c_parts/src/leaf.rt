@@ -1,7 +1,7 @@
 ghost use Rattle.std.specs.Prelude.{◌≡◌, IfOk};
 ghost use Rattle.c_parts.specs.PartViews.{leaf_view};
 
-use c_program::Word;
+use c_rawtree::Word;
 use misra_base::{Name, Place};
 use std::alloc::{AllocError, Global};
 

@@ -1,13 +1,13 @@
 ghost use Rattle.std.specs.Prelude.{◌≡◌, map};
 ghost use Rattle.std.specs.Option.{option_map};
-ghost use Rattle.c_program.specs.StatementViews.{block_view, body_view, case_label_view, clause_view, for_start_view, if_view, item_view, leave_view, otherwise_view, simple_view, statement_view};
+ghost use Rattle.c_rawtree.specs.StatementViews.{block_view, body_view, case_label_view, clause_view, for_start_view, if_view, item_view, leave_view, otherwise_view, simple_view, statement_view};
 ghost use Rattle.c_parts.specs.Kinds;
 ghost use Rattle.c_parts.specs.PartData;
 ghost use Rattle.c_parts.specs.PartViews.{statement_part_view, simple_rest_view};
 ghost use Rattle.c_parts.specs.Reading.{kind_of, block_of, item_of, items_of, statement_of, statements_of, if_statement_of, otherwise_of, otherwise_branch_of, for_start_of, optional_for_start_of, simple_of, optional_simple_of, simple_rest_of, case_labels_of, clause_of, clauses_of, body_of, optional_body_of, leave_of};
 
 use crate::chain::Chain;
-use c_program::{
+use c_rawtree::{
     AssignmentOperator, Block, Body, CaseLabel, Clause, Expression, ForStart, If, Item, Leave,
     Otherwise, Simple, Statement, Step,
 };

@@ -1,7 +1,7 @@
 use crate::expression::put_expression;
 use crate::operator::{keyword_token, qualifier_token};
 use crate::token::{put, put_word};
-use c_program::{
+use c_rawtree::{
     Bound, Declaration, Declarator, Enumerator, InitDeclarator, Initializer, MemberDeclaration,
     Pointer, Specifier, Word,
 };

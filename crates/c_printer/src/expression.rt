@@ -1,7 +1,7 @@
 use crate::declaration::{put_pointers, put_specifiers};
 use crate::operator::{binary_token, unary_token};
 use crate::token::{put, put_word};
-use c_program::{Expression, Operation, Postfix, TypeName};
+use c_rawtree::{Expression, Operation, Postfix, TypeName};
 use std::alloc::AllocError;
 
 /// How tightly the operators bind that are no binary ones.

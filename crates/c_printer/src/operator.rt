@@ -1,4 +1,4 @@
-use c_program::{AssignmentOperator, BinaryOperator, Keyword, Qualifier, Step, UnaryOperator};
+use c_rawtree::{AssignmentOperator, BinaryOperator, Keyword, Qualifier, Step, UnaryOperator};
 
 /// An operator between operands, and how tightly it binds (C11 6.5.5 to 6.5.14): `||` is 1, `*` is 10.
 pub(crate) fn binary_token(operator: BinaryOperator) -> (&'static [u8], u8) {

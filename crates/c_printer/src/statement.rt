@@ -2,7 +2,7 @@ use crate::declaration::{put_declaration, put_pointers, put_specifiers};
 use crate::expression::{MULTIPLICATIVE, PRIMARY, put_expression, put_operand};
 use crate::operator::{assignment_token, step_token};
 use crate::token::{put, put_word};
-use c_program::{
+use c_rawtree::{
     Block, Body, CaseLabel, Clause, Expression, ForStart, If, Item, Leave, Otherwise, Simple,
     Statement,
 };

@@ -1,4 +1,4 @@
-use c_program::Word;
+use c_rawtree::Word;
 use std::alloc::AllocError;
 
 /// Writes a token, and a space behind it.

@@ -1,7 +1,7 @@
 use crate::declaration::{put_bound, put_declaration, put_pointers, put_specifiers};
 use crate::statement::put_block;
 use crate::token::{put, put_word};
-use c_program::{External, Function, Parameter, Tree, TypeDefinition};
+use c_rawtree::{External, Function, Parameter, Tree, TypeDefinition};
 use std::alloc::{AllocError, Global};
 
 /// A text that has the tree, but for its places: its tokens, each with a space behind it. Brackets stand only where

@@ -3,7 +3,7 @@ use crate::tests::{checked, framed, framed_rows, repeated, show, whole_rows};
 use c_grammar::tree;
 use c_lexer::tokens;
 use c_printer::print;
-use c_program::Tree;
+use c_rawtree::Tree;
 use std::alloc::{AllocError, Global};
 use std::process::Abort;
 use std::test::Fail;

@@ -1,5 +1,5 @@
 use Rattle.std.proofs.Common.{◌∙◌, map, ap}
-use Rattle.c_program.specs.StatementViews.{external_view}
+use Rattle.c_rawtree.specs.StatementViews.{external_view}
 use Rattle.c_parts.specs.Reading.{first, externals_of}
 use Rattle.c_parts.specs.PartViews.{part_view}
 use Rattle.c_grammar.proofs.syntax_tree.externals.Goals as goal

@@ -1,33 +1,33 @@
 -- What the types of declarations and statements stand for.
 use Rattle.std.specs.Prelude.{List, [], ◌∷◌, map, Option, None, Some}
 use Rattle.std.specs.Option.{option_map}
-use Rattle.c_program.specs.declared.declaration.Initializer.{Initializer, fold-Initializer, Initializer-F}
-use Rattle.c_program.specs.declared.declaration.Initialization.{Initialization}
-use Rattle.c_program.specs.declared.declaration.InitDeclarator.{InitDeclarator}
-use Rattle.c_program.specs.declared.declaration.Declaration.{Declaration}
-use Rattle.c_program.specs.declared.declaration.Parameter.{Parameter}
-use Rattle.c_program.specs.declared.declaration.TypeDefinition.{TypeDefinition}
-use Rattle.c_program.specs.declared.statement.Simple.{Simple}
-use Rattle.c_program.specs.declared.statement.Simple.TheVariants as SimpleOf
-use Rattle.c_program.specs.declared.statement.Leave.{Leave}
-use Rattle.c_program.specs.declared.statement.Leave.TheVariants as LeaveOf
-use Rattle.c_program.specs.declared.statement.ForStart.{ForStart}
-use Rattle.c_program.specs.declared.statement.ForStart.TheVariants as ForStartOf
-use Rattle.c_program.specs.declared.statement.CaseLabel.{CaseLabel}
-use Rattle.c_program.specs.declared.statement.Statement.{Statement, fold-Statement}
-use Rattle.c_program.specs.declared.statement.Block.{Block, fold-Block}
-use Rattle.c_program.specs.declared.statement.Item.{Item, fold-Item}
-use Rattle.c_program.specs.declared.statement.Otherwise.{Otherwise, fold-Otherwise}
-use Rattle.c_program.specs.declared.statement.Body.{Body, fold-Body}
-use Rattle.c_program.specs.declared.statement.Clause.{Clause, fold-Clause}
-use Rattle.c_program.specs.declared.statement.If.{If, fold-If}
-use Rattle.c_program.specs.declared.statement.Item.TheOpen.{Item-F, Otherwise-F, Statement-F, Block-F, Body-F, Clause-F, If-F}
-use Rattle.c_program.specs.declared.tree.Function.{Function}
-use Rattle.c_program.specs.declared.tree.External.{External}
-use Rattle.c_program.specs.declared.tree.External.TheVariants as ExternalOf
-use Rattle.c_program.specs.declared.tree.Tree.{Tree}
-use Rattle.c_program.specs.Views.{boxed_view, declarator_view, bound_view, specifiers_view, pointers_view}
-use Rattle.c_program.specs.Statements
+use Rattle.c_rawtree.specs.declared.declaration.Initializer.{Initializer, fold-Initializer, Initializer-F}
+use Rattle.c_rawtree.specs.declared.declaration.Initialization.{Initialization}
+use Rattle.c_rawtree.specs.declared.declaration.InitDeclarator.{InitDeclarator}
+use Rattle.c_rawtree.specs.declared.declaration.Declaration.{Declaration}
+use Rattle.c_rawtree.specs.declared.declaration.Parameter.{Parameter}
+use Rattle.c_rawtree.specs.declared.declaration.TypeDefinition.{TypeDefinition}
+use Rattle.c_rawtree.specs.declared.statement.Simple.{Simple}
+use Rattle.c_rawtree.specs.declared.statement.Simple.TheVariants as SimpleOf
+use Rattle.c_rawtree.specs.declared.statement.Leave.{Leave}
+use Rattle.c_rawtree.specs.declared.statement.Leave.TheVariants as LeaveOf
+use Rattle.c_rawtree.specs.declared.statement.ForStart.{ForStart}
+use Rattle.c_rawtree.specs.declared.statement.ForStart.TheVariants as ForStartOf
+use Rattle.c_rawtree.specs.declared.statement.CaseLabel.{CaseLabel}
+use Rattle.c_rawtree.specs.declared.statement.Statement.{Statement, fold-Statement}
+use Rattle.c_rawtree.specs.declared.statement.Block.{Block, fold-Block}
+use Rattle.c_rawtree.specs.declared.statement.Item.{Item, fold-Item}
+use Rattle.c_rawtree.specs.declared.statement.Otherwise.{Otherwise, fold-Otherwise}
+use Rattle.c_rawtree.specs.declared.statement.Body.{Body, fold-Body}
+use Rattle.c_rawtree.specs.declared.statement.Clause.{Clause, fold-Clause}
+use Rattle.c_rawtree.specs.declared.statement.If.{If, fold-If}
+use Rattle.c_rawtree.specs.declared.statement.Item.TheOpen.{Item-F, Otherwise-F, Statement-F, Block-F, Body-F, Clause-F, If-F}
+use Rattle.c_rawtree.specs.declared.tree.Function.{Function}
+use Rattle.c_rawtree.specs.declared.tree.External.{External}
+use Rattle.c_rawtree.specs.declared.tree.External.TheVariants as ExternalOf
+use Rattle.c_rawtree.specs.declared.tree.Tree.{Tree}
+use Rattle.c_rawtree.specs.Views.{boxed_view, declarator_view, bound_view, specifiers_view, pointers_view}
+use Rattle.c_rawtree.specs.Statements
 
 abbrev pub initializers_of : List Statements.InitializerData → Statements.Initializers
 initializers_of [] = Statements.no_initializers

@@ -1,10 +1,10 @@
 -- Declarations, statements and translation units, as plain data (C11 6.7 to 6.9).
 use Rattle.std.specs.Prelude.{Bool, List, Option}
 use Rattle.misra_base.specs.declared.place.Place.{Place}
-use Rattle.c_program.specs.declared.expression.Word.{Word}
-use Rattle.c_program.specs.declared.statement.AssignmentOperator.{AssignmentOperator}
-use Rattle.c_program.specs.declared.statement.Step.{Step}
-use Rattle.c_program.specs.Expressions.{ExpressionData, Specifiers, DeclaratorData, PointerData, BoundData}
+use Rattle.c_rawtree.specs.declared.expression.Word.{Word}
+use Rattle.c_rawtree.specs.declared.statement.AssignmentOperator.{AssignmentOperator}
+use Rattle.c_rawtree.specs.declared.statement.Step.{Step}
+use Rattle.c_rawtree.specs.Expressions.{ExpressionData, Specifiers, DeclaratorData, PointerData, BoundData}
 
 mutual
   pub data InitializerData : Type 0 where

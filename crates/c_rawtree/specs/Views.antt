@@ -2,20 +2,20 @@
 use Rattle.std.specs.Prelude.{List, [], ◌∷◌, map, Option, None, Some, Box}
 use Rattle.std.specs.declared.alloc.Global.{Global}
 use Rattle.misra_base.specs.declared.place.Place.{Place}
-use Rattle.c_program.specs.declared.expression.BinaryOperator.{BinaryOperator}
-use Rattle.c_program.specs.declared.expression.Word.{Word}
-use Rattle.c_program.specs.declared.expression.Pointer.{Pointer}
-use Rattle.c_program.specs.declared.expression.Expression.{Expression, fold-Expression}
-use Rattle.c_program.specs.declared.expression.Expression.TheOpen.{Expression-F, Postfix-F, Specifier-F, Bound-F, Declarator-F, Enumerator-F, MemberDeclaration-F, Operation-F, TypeName-F}
-use Rattle.c_program.specs.declared.expression.Postfix.{Postfix, fold-Postfix}
-use Rattle.c_program.specs.declared.expression.Specifier.{Specifier, fold-Specifier}
-use Rattle.c_program.specs.declared.expression.Operation.{Operation, fold-Operation}
-use Rattle.c_program.specs.declared.expression.TypeName.{TypeName, fold-TypeName}
-use Rattle.c_program.specs.declared.expression.Declarator.{Declarator, fold-Declarator}
-use Rattle.c_program.specs.declared.expression.Bound.{Bound, fold-Bound}
-use Rattle.c_program.specs.declared.expression.MemberDeclaration.{MemberDeclaration, fold-MemberDeclaration}
-use Rattle.c_program.specs.declared.expression.Enumerator.{Enumerator, fold-Enumerator}
-use Rattle.c_program.specs.Expressions
+use Rattle.c_rawtree.specs.declared.expression.BinaryOperator.{BinaryOperator}
+use Rattle.c_rawtree.specs.declared.expression.Word.{Word}
+use Rattle.c_rawtree.specs.declared.expression.Pointer.{Pointer}
+use Rattle.c_rawtree.specs.declared.expression.Expression.{Expression, fold-Expression}
+use Rattle.c_rawtree.specs.declared.expression.Expression.TheOpen.{Expression-F, Postfix-F, Specifier-F, Bound-F, Declarator-F, Enumerator-F, MemberDeclaration-F, Operation-F, TypeName-F}
+use Rattle.c_rawtree.specs.declared.expression.Postfix.{Postfix, fold-Postfix}
+use Rattle.c_rawtree.specs.declared.expression.Specifier.{Specifier, fold-Specifier}
+use Rattle.c_rawtree.specs.declared.expression.Operation.{Operation, fold-Operation}
+use Rattle.c_rawtree.specs.declared.expression.TypeName.{TypeName, fold-TypeName}
+use Rattle.c_rawtree.specs.declared.expression.Declarator.{Declarator, fold-Declarator}
+use Rattle.c_rawtree.specs.declared.expression.Bound.{Bound, fold-Bound}
+use Rattle.c_rawtree.specs.declared.expression.MemberDeclaration.{MemberDeclaration, fold-MemberDeclaration}
+use Rattle.c_rawtree.specs.declared.expression.Enumerator.{Enumerator, fold-Enumerator}
+use Rattle.c_rawtree.specs.Expressions
 
 -- one of a list of operations, of members, of enumerators
 pub record OneOperation : Type 0 where

@@ -1,11 +1,11 @@
 -- Expressions, type names and what they hold, as plain data (C11 6.5, 6.7).
 use Rattle.std.specs.Prelude.{List, Option}
 use Rattle.misra_base.specs.declared.place.Place.{Place}
-use Rattle.c_program.specs.declared.expression.BinaryOperator.{BinaryOperator}
-use Rattle.c_program.specs.declared.expression.UnaryOperator.{UnaryOperator}
-use Rattle.c_program.specs.declared.expression.Qualifier.{Qualifier}
-use Rattle.c_program.specs.declared.expression.Keyword.{Keyword}
-use Rattle.c_program.specs.declared.expression.Word.{Word}
+use Rattle.c_rawtree.specs.declared.expression.BinaryOperator.{BinaryOperator}
+use Rattle.c_rawtree.specs.declared.expression.UnaryOperator.{UnaryOperator}
+use Rattle.c_rawtree.specs.declared.expression.Qualifier.{Qualifier}
+use Rattle.c_rawtree.specs.declared.expression.Keyword.{Keyword}
+use Rattle.c_rawtree.specs.declared.expression.Word.{Word}
 
 pub record PointerData : Type 0 where
   pub place : Place
