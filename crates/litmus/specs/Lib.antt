@@ -1,0 +1,4 @@
+pub mod Pieces
+pub mod Statements
+pub mod Guidelines
+pub mod Undefined
