@@ -5,3 +5,4 @@ pub mod Waits
 pub mod Made
 pub mod Alone
 pub mod Race
+pub mod Counted

@@ -2,3 +2,4 @@ pub mod Pieces
 pub mod Statements
 pub mod Guidelines
 pub mod Undefined
+pub mod Runs

@@ -2,4 +2,5 @@
 #![tactic(auto)]
 
 pub mod guidelines;
+pub mod runs;
 pub mod undefined;
