@@ -1,3 +1,7 @@
+ghost use Rattle.std.specs.Prelude.{◌≡◌, slice_get};
+ghost use Rattle.std.specs.Option.{option_copied};
+ghost use Rattle.c_program.specs.Syntax.{object_at, function_at};
+
 use crate::action::Action;
 use crate::expression::Expr;
 use crate::statement::Statement;
@@ -76,4 +80,34 @@ pub struct Program {
     pub actions: Items<Action>,
     /// The number of `main`.
     pub main: u32,
+}
+
+impl Program {
+    /// The object of a number, none from the number of objects on.
+    pub fn object(&self, number: u32) -> Option<&Object>
+        ensures { option_copied result ≡ object_at self.now number }
+    {
+        self.objects.get(number as usize)
+    }
+
+    /// The function of a number, none from the number of functions on.
+    pub fn function(&self, number: u32) -> Option<&Function>
+        ensures { option_copied result ≡ function_at self.now number }
+    {
+        self.functions.get(number as usize)
+    }
+
+    /// The action of a number, none from the number of actions on.
+    pub fn action(&self, number: u32) -> Option<&Action>
+        ensures { option_copied result ≡ slice_get self.now.actions number }
+    {
+        self.actions.get(number as usize)
+    }
+
+    /// The structure of a number, none from the number of structures on.
+    pub fn structure(&self, number: u32) -> Option<&Structure>
+        ensures { option_copied result ≡ slice_get self.now.structures number }
+    {
+        self.structures.get(number as usize)
+    }
 }

@@ -1,5 +1,5 @@
 -- Steps of one thread alone are no data race.
-use Rattle.std.proofs.Common.{◌≡◌, refl, sym, ◌∙◌, Bool, true, false, ◌&&◌, ◌==◌, ℕ, List, [], ◌∷◌, length, Option, Some, None, eqb-true}
+use Rattle.std.proofs.Common.{◌≡◌, sym, ◌∙◌, Bool, true, ◌&&◌, ◌==◌, ℕ, List, [], ◌∷◌, length, Some, eqb-true}
 use Rattle.misra_base.specs.declared.guideline.Guideline.TheVariants.{D5_1}
 use Rattle.c_program.specs.declared.program.Program.{Program}
 use Rattle.c_program.specs.Step.{Choice, Outcome, Does, No_step, Undefined}

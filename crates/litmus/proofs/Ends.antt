@@ -1,15 +1,14 @@
 -- Steps that break a guideline on mutexes in no way: they end no thread and destroy nothing, or begin to wait first.
-use Rattle.std.proofs.Common.{subst, ◌≡◌, ◌⊎◌, inl, inr, refl, sym, ap, ◌∙◌, Bool, true, false, ℕ, List, [], ◌∷◌, length, Option, Some, None}
-use Rattle.std.specs.Prelude.{option_map, unwrap_or}
+use Rattle.std.proofs.Common.{subst, ◌≡◌, inl, inr, sym, ap, ◌∙◌, Bool, true, false, List, ◌∷◌, length, Option, Some, None}
 use Rattle.misra_base.specs.declared.guideline.Guideline.TheVariants.{R21_26, R22_16, R22_19}
 use Rattle.c_program.specs.declared.program.Program.{Program}
 use Rattle.c_program.specs.Requests.{Request, Destroys, Tries_timed, Waits}
 use Rattle.c_program.specs.Values.{Cell}
-use Rattle.c_program.specs.State.{Life, Live}
+use Rattle.c_program.specs.State.{Live}
 use Rattle.c_program.specs.Effects.{finishes}
 use Rattle.c_program.specs.Step.{Choice}
 use Rattle.c_program.specs.Runs.{Moment, moment_at, state_after}
-use Rattle.c_program.specs.Breaks.{Breaks, BreaksBy, request_by, IsOtherThan}
+use Rattle.c_program.specs.Breaks.{Breaks, request_by, IsOtherThan}
 
 abbrev pub destroys : Option Request → Bool
 destroys (Some (Destroys m)) = true

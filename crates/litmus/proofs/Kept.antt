@@ -1,5 +1,5 @@
 -- A step that has a meaning breaks no guideline that ends the run.
-use Rattle.std.proofs.Common.{◌≡◌, refl, sym, subst, ap, ◌∙◌, Bool, true, false, ◌||◌, ℕ, List, [], ◌∷◌, Option, Some, None}
+use Rattle.std.proofs.Common.{◌≡◌, refl, sym, subst, ap, ◌∙◌, true, false, ℕ, List, [], ◌∷◌, Some}
 use Rattle.std.specs.List.{list_any}
 use Rattle.misra_base.specs.declared.guideline.Guideline.{Guideline}
 use Rattle.misra_base.specs.declared.guideline.Guideline.TheVariants.{R22_11, R22_14, R22_15, R22_17, R22_18}
@@ -11,7 +11,7 @@ use Rattle.c_program.specs.Faults.{is_broken, is_undefined, has_no_thread, endin
 use Rattle.c_program.specs.Effects.{Effect}
 use Rattle.c_program.specs.Step.{Choice, Outcome, Does, No_step, Undefined, outcome}
 use Rattle.c_program.specs.Runs.{HasMeaning, IsGoodRun, state_after, outcome_of}
-use Rattle.c_program.specs.Breaks.{Breaks, BreaksBy, request_by, request_stand, request_moved, request_in}
+use Rattle.c_program.specs.Breaks.{BreaksBy, request_by, request_stand, request_moved, request_in}
 use Rattle.c_program.specs.Laws.{IsStepBy}
 use Rattle.c_program.proofs.Logic.{or_false}
 use Rattle.c_program.proofs.Inversion.{by_an_ask}

@@ -6,11 +6,11 @@ use Rattle.std.specs.List.{list_any}
 use Rattle.misra_base.specs.declared.guideline.Guideline.TheVariants.{D5_3}
 use Rattle.c_program.specs.declared.program.Program.{Program}
 use Rattle.c_program.specs.Control.{Point}
-use Rattle.c_program.specs.Step.{Choice, Outcome, Does, No_step, Undefined}
+use Rattle.c_program.specs.Step.{Choice}
 use Rattle.c_program.specs.Runs.{Moment, moment_of, moment_at, outcome_of}
 use Rattle.c_program.specs.Breaks.{Breaks, creates, point_of}
 use Rattle.c_program.proofs.Cells.{and_true}
-use Rattle.c_program.proofs.Logic.{if_cases, not_true, or_false}
+use Rattle.c_program.proofs.Logic.{if_cases}
 
 -- the actions of the creations of a run
 abbrev creation_of : Option Moment → List ℕ → List ℕ

@@ -6,7 +6,7 @@ use Rattle.c_program.specs.declared.statement.Condition.{Condition, Test, And', 
 use Rattle.c_program.specs.declared.statement.Statement.{Statement, Do, Block', Switch', Break, Continue, Row_of-Statement, end_of-Statement, more_of-Statement}
 use Rattle.c_program.specs.declared.program.Function.{Function}
 use Rattle.c_program.specs.declared.program.Program.{Program}
-use Rattle.c_program.specs.Syntax.{Not, After, If, Loop, Counted, act_at, body_at}
+use Rattle.c_program.specs.Syntax.{Not, After, If, Loop, Counted, body_at}
 use Rattle.c_program.specs.Counters.{Counts, CountsAll, CountsCondition, CountsConditions, has_few_turns, all_have_few_turns, condition_has_few_turns, conditions_have_few_turns}
 use Rattle.c_program.specs.Typing.{is_typed}
 use Rattle.c_program.specs.WellFormed.{IsWellFormed, all_differ, text_actions, fits, body_leads_on, object_is_known, function_is_known, act_is_known, structures_marked, starts_with_timespec, takes}
@@ -117,19 +117,19 @@ is_plain program =
 pub plain : (program : Program) → is_plain program ≡ true → IsWellFormed program
 plain program h = let p = and_true _ _ h in let a = and_true _ _ p.0 in let b = and_true _ _ a.1 in let c = and_true _ _ b.1 in
     let q = and_true _ _ p.1 in let d = and_true _ _ q.0 in let e = and_true _ _ d.1 in let r = and_true _ _ q.1 in let f = and_true _ _ r.0 in let g = and_true _ _ f.1 in let i = and_true _ _ r.1 in record {
-  differ = a.0;
-  numbered = b.0;
-  fit = c.0;
-  leads_on = c.1;
-  objects = d.0;
-  functions = e.0;
-  actions = e.1;
-  structures = f.0;
-  timespec = g.0;
-  main = g.1;
-  typed = i.0;
-  counts = record {
-    counts = λ n. counts program (body_at program n) (none_in program.functions n i.1);
-    few = λ n. few 1 (body_at program n) (none_in program.functions n i.1);
-  };
-}
+      differ = a.0;
+      numbered = b.0;
+      fit = c.0;
+      leads_on = c.1;
+      objects = d.0;
+      functions = e.0;
+      actions = e.1;
+      structures = f.0;
+      timespec = g.0;
+      main = g.1;
+      typed = i.0;
+      counts = record {
+        counts = λ n. counts program (body_at program n) (none_in program.functions n i.1);
+        few = λ n. few 1 (body_at program n) (none_in program.functions n i.1);
+      };
+    }

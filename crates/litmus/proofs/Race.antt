@@ -1,20 +1,11 @@
 -- Two writes of one object by two threads, not ordered.
 use Rattle.std.proofs.Common.{◌≡◌, refl, sym, subst, ap, ◌∙◌, ℕ, ◌<◌, true, false, ◌==◌, List, [], ◌∷◌, Some, None, arith, eqb-true}
-use Rattle.std.specs.Prelude.{pos}
-use Rattle.c_program.specs.declared.types.Base.TheVariants.{Thread}
-use Rattle.c_program.specs.declared.expression.Expr.{Constant, Object}
-use Rattle.c_program.specs.declared.action.Act.TheVariants.{Library, Write}
-use Rattle.c_program.specs.declared.action.LibraryCall.TheVariants.{ThreadCreate}
-use Rattle.c_program.specs.declared.statement.Statement.{Do}
 use Rattle.misra_base.specs.declared.guideline.Guideline.TheVariants.{D5_1}
-use Rattle.c_program.specs.declared.program.Program.{Program}
-use Rattle.c_program.specs.Syntax.{c_int}
-use Rattle.c_program.specs.Types.{plain_type}
 use Rattle.c_program.specs.Values.{Cell, Static}
 use Rattle.c_program.specs.Requests.{Goes}
 use Rattle.c_program.specs.Effects.{Nothing, after}
 use Rattle.c_program.specs.Step.{Choice}
-use Rattle.c_program.specs.Runs.{IsRun, Moment, moment_at, Pair}
+use Rattle.c_program.specs.Runs.{Moment, moment_at, Pair}
 use Rattle.c_program.specs.Happens.{Before, in_thread, by_creation, by_join, by_mutex, by_atomic, through, made_thread, joined_thread, releases, writes_atomically, state_at}
 use Rattle.c_program.specs.Breaks.{Breaks}
 use Rattle.c_program.proofs.Build.{computes, the}

@@ -3,9 +3,7 @@ use Rattle.std.proofs.Common.{◌≡◌, refl, sym, subst, ap, ◌∙◌, Bool, 
 use Rattle.std.proofs.lemmas.Grind.{common_steps}
 use Rattle.std.specs.Prelude.{if◌then◌else◌}
 use Rattle.c_program.specs.declared.program.Program.{Program}
-use Rattle.c_program.specs.Values.{Cell}
-use Rattle.c_program.specs.Control.{Control}
-use Rattle.c_program.specs.State.{State, Stand, Not_made, Running, Ended, Frame, Life, Unmade, Live, Dead, Mutex, is_running}
+use Rattle.c_program.specs.State.{State, Stand, Not_made, Running, Life, Live, Mutex, is_running}
 use Rattle.c_program.specs.Requests.{Request, Locks, Joins}
 use Rattle.c_program.specs.Step.{Choice}
 use Rattle.c_program.specs.Runs.{IsGoodRun, state_after}

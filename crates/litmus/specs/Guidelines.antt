@@ -1,5 +1,5 @@
 -- For each guideline that a run may break, a text.
-use Rattle.std.specs.Prelude.{ℕ, pos, List, [], ◌∷◌, Some, None}
+use Rattle.std.specs.Prelude.{[], ◌∷◌, None}
 use Rattle.c_program.specs.declared.types.Base.TheVariants as base
 use Rattle.c_program.specs.declared.types.Integer.TheVariants.{Int}
 use Rattle.c_program.specs.declared.expression.Expr.{Object}

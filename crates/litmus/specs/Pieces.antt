@@ -5,13 +5,11 @@
 --     static int w(void *arg) { .. return 0; }
 --     int main(void) { .. return 0; }
 -- as programs, and pieces of their schedules.
-use Rattle.std.specs.Prelude.{ℕ, zero, suc, ◌+◌, Bool, false, pos, List, [], ◌∷◌, ◌++◌, length, reverse, Option, Some, None}
+use Rattle.std.specs.Prelude.{ℕ, suc, false, pos, List, [], ◌∷◌, ◌++◌, length, reverse, Some, None}
 use Rattle.misra_base.specs.declared.place.Place.{Place}
 use Rattle.c_program.specs.declared.types.CType.{CType}
-use Rattle.c_program.specs.declared.types.Base.{Base}
 use Rattle.c_program.specs.declared.types.Base.TheVariants as base
 use Rattle.c_program.specs.declared.types.Integer.TheVariants.{Int, Long}
-use Rattle.c_program.specs.declared.types.Member.{Member}
 use Rattle.c_program.specs.declared.types.Structure.{Structure}
 use Rattle.c_program.specs.declared.expression.Expr.{Expr, Constant, Object}
 use Rattle.c_program.specs.declared.action.MutexKind.{MutexKind}
@@ -20,7 +18,6 @@ use Rattle.c_program.specs.declared.action.Act.TheVariants.{Library, Return}
 use Rattle.c_program.specs.declared.action.LibraryCall.TheVariants as lib
 use Rattle.c_program.specs.declared.action.Action.{Action}
 use Rattle.c_program.specs.declared.statement.Statement.{Statement, Do}
-use Rattle.c_program.specs.declared.program.Storage.{Storage}
 use Rattle.c_program.specs.declared.program.Storage.TheVariants.{Static, Automatic}
 use Rattle.c_program.specs.declared.program.Object.{Object as ObjectOf}
 use Rattle.c_program.specs.declared.program.Function.{Function}

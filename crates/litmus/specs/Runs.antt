@@ -1,10 +1,9 @@
 -- Texts that are run to their end, that wait, and whose calls fail.
-use Rattle.std.specs.Prelude.{◌≡◌, ℕ, suc, Bool, true, false, ℤ, pos, List, [], ◌∷◌, Option, Some, None}
-use Rattle.misra_base.specs.declared.guideline.Guideline.{Guideline}
+use Rattle.std.specs.Prelude.{◌≡◌, ℕ, suc, true, false, ℤ, pos, List, [], ◌∷◌, Some, None}
 use Rattle.c_program.specs.declared.types.CType.{CType}
 use Rattle.c_program.specs.declared.types.Base.TheVariants as base
 use Rattle.c_program.specs.declared.types.Integer.TheVariants.{Int}
-use Rattle.c_program.specs.declared.expression.Expr.{Expr, Constant, Object, Local}
+use Rattle.c_program.specs.declared.expression.Expr.{Expr, Object, Local}
 use Rattle.c_program.specs.declared.expression.BinaryOperator.TheVariants.{Add, Less, NotEqual}
 use Rattle.c_program.specs.declared.action.Local.{Local as LocalOf}
 use Rattle.c_program.specs.declared.action.LibraryCall.{LibraryCall}
@@ -14,20 +13,19 @@ use Rattle.c_program.specs.declared.action.Act.TheVariants.{Read, Write, Assign,
 use Rattle.c_program.specs.declared.action.Action.{Action}
 use Rattle.c_program.specs.declared.statement.Condition.{Test}
 use Rattle.c_program.specs.declared.statement.Counter.{Counter}
-use Rattle.c_program.specs.declared.statement.Statement.{Statement, Do}
-use Rattle.c_program.specs.declared.program.Storage.TheVariants.{Static, Automatic}
+use Rattle.c_program.specs.declared.statement.Statement.{Do}
+use Rattle.c_program.specs.declared.program.Storage.TheVariants.{Static}
 use Rattle.c_program.specs.declared.program.Object.{Object as ObjectOf}
 use Rattle.c_program.specs.declared.program.Program.{Program}
 use Rattle.c_program.specs.Syntax.{c_int, If, After, Counted, Element}
 use Rattle.c_program.specs.Lists.{Path, Chain, Block}
 use Rattle.c_program.specs.Types.{plain_type}
 use Rattle.c_program.specs.Values.{Cell, Number, Static as StaticRoot, Of_frame}
-use Rattle.c_program.specs.Control.{Spot}
-use Rattle.c_program.specs.State.{State, Life, Unmade, Live, Mutex, Joined, control_of, inside_of, has_ended}
-use Rattle.c_program.specs.Step.{Choice, Outcome, No_step}
-use Rattle.c_program.specs.Runs.{IsRun, IsGoodRun, state_after, outcome_of}
+use Rattle.c_program.specs.State.{Life, Unmade, Live, Mutex, Joined, control_of, inside_of, has_ended}
+use Rattle.c_program.specs.Step.{Choice, No_step}
+use Rattle.c_program.specs.Runs.{IsGoodRun, state_after, outcome_of}
 use Rattle.c_program.specs.WellFormed.{IsWellFormed}
-use Rattle.litmus.specs.Pieces.{at, void_pointer, automatic_object, timespec, m, c, t, k, own, w, main, function_of, numbered, straight, in_w, in_main, number, null, return_0, idle, plain_kind, init, lock, unlock, wait, open_condition, create, goes, answers, in_order}
+use Rattle.litmus.specs.Pieces.{at, void_pointer, automatic_object, timespec, m, c, t, k, own, main, function_of, straight, in_w, in_main, number, null, return_0, idle, plain_kind, init, lock, unlock, wait, open_condition, create, goes, answers, in_order}
 
 -- ---- the tested form of a text whose two threads count under a mutex, to the return of main
 

@@ -1,5 +1,5 @@
 -- What is said of the programs and their runs.
-use Rattle.std.specs.Prelude.{◌≡◌, List, [], ◌∷◌}
+use Rattle.std.specs.Prelude.{List, [], ◌∷◌}
 use Rattle.misra_base.specs.declared.guideline.Guideline.{Guideline}
 use Rattle.c_program.specs.declared.program.Program.{Program}
 use Rattle.c_program.specs.Step.{Choice}

@@ -1,28 +1,26 @@
 -- For each kind of undefined step but those that break a rule, a text.
-use Rattle.std.specs.Prelude.{◌≡◌, ℕ, Bool, true, false, ℤ, pos, negsuc, List, [], ◌∷◌, Some, None}
+use Rattle.std.specs.Prelude.{◌≡◌, ℕ, true, false, ℤ, pos, negsuc, List, [], ◌∷◌, Some, None}
 use Rattle.c_program.specs.declared.types.CType.{CType}
 use Rattle.c_program.specs.declared.types.Base.TheVariants as base
-use Rattle.c_program.specs.declared.types.Integer.TheVariants.{Int, Long}
+use Rattle.c_program.specs.declared.types.Integer.TheVariants.{Int}
 use Rattle.c_program.specs.declared.expression.Expr.{Expr, Constant, Object, Local}
 use Rattle.c_program.specs.declared.expression.Step.{Step}
-use Rattle.c_program.specs.declared.expression.Link.{Link}
 use Rattle.c_program.specs.declared.expression.BinaryOperator.{BinaryOperator}
 use Rattle.c_program.specs.declared.action.Local.{Local as LocalOf}
-use Rattle.c_program.specs.declared.action.Act.{Act}
-use Rattle.c_program.specs.declared.action.Act.TheVariants.{Read, Write, Assign, Declare, Library, Call, Evaluate, Return, End}
+use Rattle.c_program.specs.declared.action.Act.TheVariants.{Read, Write, Assign, Declare, Library, Call, Evaluate, End}
 use Rattle.c_program.specs.declared.action.LibraryCall.TheVariants as lib
 use Rattle.c_program.specs.declared.action.Action.{Action}
 use Rattle.c_program.specs.declared.statement.Statement.{Do}
 use Rattle.c_program.specs.declared.program.Storage.TheVariants.{Static}
 use Rattle.c_program.specs.declared.program.Object.{Object as ObjectOf}
 use Rattle.c_program.specs.declared.program.Program.{Program}
-use Rattle.c_program.specs.Syntax.{c_int, Element, Forward, Back}
+use Rattle.c_program.specs.Syntax.{c_int, Forward}
 use Rattle.c_program.specs.Lists.{Path, Chain, Block}
 use Rattle.c_program.specs.Types.{plain_type}
 use Rattle.c_program.specs.Step.{Choice, Undefined}
 use Rattle.c_program.specs.Runs.{IsGoodRun, outcome_of}
 use Rattle.c_program.specs.WellFormed.{IsWellFormed}
-use Rattle.litmus.specs.Pieces.{at, c_long, automatic_object, globals, timespec, t, x, own, w, main, function_of, numbered, straight, in_w, in_main, number, null, return_0, idle, create, goes}
+use Rattle.litmus.specs.Pieces.{at, c_long, automatic_object, timespec, t, x, own, w, main, function_of, numbered, straight, in_w, in_main, number, null, return_0, idle, create}
 
 -- a program as a text gives it, a run of it whose steps have a meaning, and a last step that has none
 pub record IsStopped (program : Program) (choice : Choice) (run : List Choice) : Type 0 where
@@ -115,8 +113,17 @@ dead_used = record {
       ∷ automatic_object (121 ∷ []) (at 5 30) c_int 1
       ∷ automatic_object [] (at 6 41) (pointer_to c_int) 2 ∷ automatic_object [] (at 6 40) c_int 2 ∷ [];
   functions = function_of (119 ∷ []) (at 4 12) (0 ∷ []) (Block (Do 0 ∷ []))
-      ∷ record { name = 102 ∷ []; place = at 5 13; parameters = 2 ∷ []; result = plain_type base.Void; body = Block (Do 1 ∷ Do 2 ∷ Do 3 ∷ []);
-      loops = []; early_returns = []; unused_calls = []; changed_parameters = [] }
+      ∷ record {
+        name = 102 ∷ [];
+        place = at 5 13;
+        parameters = 2 ∷ [];
+        result = plain_type base.Void;
+        body = Block (Do 1 ∷ Do 2 ∷ Do 3 ∷ []);
+        loops = [];
+        early_returns = [];
+        unused_calls = [];
+        changed_parameters = [];
+      }
       ∷ function_of (109 ∷ 97 ∷ 105 ∷ 110 ∷ []) (at 6 5) [] (Block (numbered 4 of_main)) ∷ [];
   actions = in_w 28 return_0
       ∷ record { place = at 5 30; act = Declare 3 } ∷ record { place = at 5 33; act = Write (Local 2 []) (pointer_to c_int) (Object 3) } ∷ record { place = at 5 42; act = End }

@@ -1,5 +1,5 @@
-use Rattle.std.proofs.Common.{◌≡◌, refl, ap, ◌∙◌, Bool, true, false, Option, Some, None, arith, inl, inr}
-use Rattle.std.specs.Prelude.{ℕ, pos, [], ◌∷◌}
+use Rattle.std.proofs.Common.{refl, inr}
+use Rattle.std.specs.Prelude.{ℕ, [], ◌∷◌}
 use Rattle.c_program.specs.Requests.{Goes}
 use Rattle.c_program.specs.Effects.{Nothing}
 use Rattle.c_program.specs.Runs.{Moment, moment_at}

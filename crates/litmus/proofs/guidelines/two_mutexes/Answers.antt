@@ -1,5 +1,5 @@
-use Rattle.std.proofs.Common.{◌≡◌, refl, ap, ◌∙◌, Bool, true, false, Option, Some, None, arith, inl, inr}
-use Rattle.std.specs.Prelude.{ℕ, pos, [], ◌∷◌}
+use Rattle.std.proofs.Common.{refl}
+use Rattle.std.specs.Prelude.{[], ◌∷◌}
 use Rattle.c_program.specs.Values.{Static}
 use Rattle.c_program.proofs.Build.{computes}
 use Rattle.litmus.specs.Pieces.{goes, answers}

@@ -3,7 +3,7 @@ use Rattle.std.specs.Prelude.{[], ◌∷◌}
 use Rattle.c_program.specs.Values.{Static}
 use Rattle.c_program.specs.Requests.{Unlocks}
 use Rattle.c_program.proofs.Build.{computes}
-use Rattle.litmus.specs.Pieces.{goes, answers}
+use Rattle.litmus.specs.Pieces.{answers}
 use Rattle.litmus.specs.Guidelines.{unlock_without_lock}
 use Rattle.litmus.proofs.Plain.{plain}
 use Rattle.litmus.proofs.Kept.{keeps_17}

@@ -1,6 +1,5 @@
 use Rattle.std.proofs.Common.{refl}
 use Rattle.c_program.proofs.Build.{computes}
-use Rattle.litmus.proofs.Plain.{plain}
 use Rattle.litmus.proofs.Counted.{is_well_formed}
 use Rattle.litmus.proofs.runs.counts.Goals as goal
 
