@@ -82,11 +82,15 @@ abbrev pub is_void : CType → Bool
 is_void t = is_void_base t.base && same_bools t.pointers []
 
 -- the kind of what a scalar object holds
+abbrev pub number_kind : Base → Kind
+number_kind (base.Integer t) = A_number t
+number_kind (base.Atomic t) = A_number t
+number_kind _ = Wrong
+
 abbrev pub kind_in : Base → List Bool → List ℕ → Kind
-kind_in (base.Integer t) [] [] = A_number t
-kind_in (base.Atomic t) [] [] = A_number t
+kind_in b [] [] = number_kind b
 kind_in b (p ∷ ps) [] = A_pointer
-kind_in _ _ _ = Wrong
+kind_in b pointers (n ∷ ns) = Wrong
 
 abbrev pub kind_of_type : CType → Kind
 kind_of_type t = kind_in t.base t.pointers t.sizes
@@ -109,9 +113,14 @@ element_kind (An_address t) = element_in t t.sizes
 element_kind _ = Wrong
 
 -- a structure that is no library object and holds none
+abbrev pub is_structure_base : Base → Bool
+is_structure_base (base.Structure s) = true
+is_structure_base _ = false
+
 abbrev pub is_structure_in : Base → List Bool → List ℕ → Bool
-is_structure_in (base.Structure s) [] [] = true
-is_structure_in _ _ _ = false
+is_structure_in b [] [] = is_structure_base b
+is_structure_in b (p ∷ ps) [] = false
+is_structure_in b pointers (n ∷ ns) = false
 
 abbrev pub is_structure : Program → CType → Bool
 is_structure program t = is_structure_in t.base t.pointers t.sizes && not (holds_library program t)
@@ -208,21 +217,29 @@ abbrev mutual
 -- ---- where a value goes
 
 -- an object of the type may get a value of the kind as it is
+abbrev pub takes_number : Base → Kind → Bool
+takes_number (base.Integer t) k = is_number_at t k
+takes_number (base.Atomic t) k = is_number_at t k
+takes_number _ k = false
+
 abbrev pub takes_in : Base → List Bool → List ℕ → Kind → Bool
+takes_in b [] [] k = takes_number b k
 takes_in b (p ∷ ps) [] k = is_pointer k
-takes_in (base.Integer t) [] [] k = is_number_at t k
-takes_in (base.Atomic t) [] [] k = is_number_at t k
-takes_in _ _ _ k = false
+takes_in b pointers (n ∷ ns) k = false
 
 abbrev pub takes : CType → Kind → Bool
 takes t k = takes_in t.base t.pointers t.sizes k
 
 -- a local may get it, for which the step converts a number
+abbrev pub gets_number : Base → Kind → Bool
+gets_number (base.Integer t) k = is_number k
+gets_number (base.Atomic t) k = is_number k
+gets_number _ k = false
+
 abbrev pub gets_in : Base → List Bool → List ℕ → Kind → Bool
+gets_in b [] [] k = gets_number b k
 gets_in b (p ∷ ps) [] k = is_pointer k
-gets_in (base.Integer t) [] [] k = is_number k
-gets_in (base.Atomic t) [] [] k = is_number k
-gets_in _ _ _ k = false
+gets_in b pointers (n ∷ ns) k = false
 
 abbrev pub gets : CType → Kind → Bool
 gets t k = gets_in t.base t.pointers t.sizes k
