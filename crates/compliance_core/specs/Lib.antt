@@ -1,0 +1,5 @@
+pub mod Categories
+pub mod Covers
+pub mod Laws
+pub mod Levels
+pub mod Patterns

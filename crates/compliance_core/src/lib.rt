@@ -1,0 +1,13 @@
+//! Compliance with the guidelines, after MISRA Compliance:2020: categories, deviations that cover findings, levels and the claim.
+#![tactic(auto)]
+
+mod categories;
+mod cover;
+mod laws;
+mod levels;
+mod pattern;
+
+pub use categories::{allowed, misra, misra_plan, revised, with_category};
+pub use cover::covers;
+pub use laws::{rows_have_all_findings, summaries_have_all_findings};
+pub use levels::{claim, level, summary};
