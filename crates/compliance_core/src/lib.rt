@@ -6,8 +6,10 @@ mod cover;
 mod laws;
 mod levels;
 mod pattern;
+mod plan;
 
 pub use categories::{allowed, misra, misra_plan, revised, with_category};
 pub use cover::covers;
 pub use laws::{rows_have_all_findings, summaries_have_all_findings};
 pub use levels::{claim, level, summary};
+pub use plan::{PlanStop, plan_from_toml};
