@@ -111,7 +111,7 @@ module _ (here : Here) where
 
   -- ---- truth
 
-  truthful : (k : Kind) (o : Option Value) (F : Type 0) → is_condition k ≡ true → Comes (Fits here.program k) F o → Comes (λ (b : Bool). truth_of here o ≡ Some b) (F ⊎ Dead here o) (truth_of here o)
+  pub truthful : (k : Kind) (o : Option Value) (F : Type 0) → is_condition k ≡ true → Comes (Fits here.program k) F o → Comes (λ (b : Bool). truth_of here o ≡ Some b) (F ⊎ Dead here o) (truth_of here o)
   unfolding Comes
   truthful k None F c f = inl f
   truthful k (Some (Number z)) F c f = refl

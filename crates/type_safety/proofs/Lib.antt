@@ -3,3 +3,6 @@ pub mod Shapes
 pub mod Comes
 pub mod Arithmetic
 pub mod Evaluating
+pub mod Judging
+pub mod Acting
+pub mod Acts

@@ -5,10 +5,11 @@ use Rattle.c_program.specs.declared.types.CType.{CType}
 use Rattle.c_program.specs.declared.types.Base.{Base}
 use Rattle.c_program.specs.declared.types.Base.TheVariants as base
 use Rattle.c_program.specs.declared.program.Program.{Program}
-use Rattle.c_program.specs.Types.{same_base, same_bools, same_pointers, same_numbers, same_type, plain_type, const_too, made_const, member_type, part_of_base, part_in, type_at}
+use Rattle.c_program.specs.Types.{same_base, same_bools, same_pointers, same_numbers, same_type, plain_type, const_too, made_const, is_scalar_base, is_scalar_in, is_scalar, member_type, part_of_base, part_in, type_at}
 use Rattle.c_program.specs.Values.{Root, Cell, Value, Address, part, type_of_cell}
 use Rattle.c_program.specs.Evaluation.{sizes_of, within_bounds, at_part}
-use Rattle.c_program.specs.Typing.{Kind, Wrong, An_address, address_of, element_in, is_right}
+use Rattle.c_program.specs.Typing.{Kind, Wrong, An_address, address_of, element_in, is_right, number_kind, kind_in, kind_of_type}
+use Rattle.type_safety.specs.Fitting.{IsNumber, Fits}
 use Rattle.c_program.proofs.Cells.{and_true, numbers_same}
 
 -- ---- an object of a type
@@ -112,3 +113,74 @@ moved_is program root path k j i whole (Some own) t g e w =
         → sizes_of (part_in program own own.pointers own.sizes j) ≡ t.sizes
     go None f e = absurd (cc)
     go (Some u) f e = sized 0 [] program own own.sizes k j i u f w ∙ sizes_are t (Some u) e
+
+-- ---- what fits one type fits another that is the same
+
+scalar_same : (a b : Base) → same_base a b ≡ true → is_scalar_base a ≡ is_scalar_base b
+scalar_same base.Void base.Void e = refl
+scalar_same (base.Integer s) (base.Integer t) e = refl
+scalar_same (base.Atomic s) (base.Atomic t) e = refl
+scalar_same (base.Structure s) (base.Structure t) e = refl
+scalar_same base.Mutex base.Mutex e = refl
+scalar_same base.Condition base.Condition e = refl
+scalar_same base.Thread base.Thread e = refl
+scalar_same base.Key base.Key e = refl
+scalar_same _ _ e = absurd (cc)
+
+module _ (program : Program) where
+  number_of : (b : Base) (v : Value) → Fits program (number_kind b) v → (is_scalar_base b ≡ true) × IsNumber v
+  number_of (base.Integer t) v f = (refl, f)
+  number_of (base.Atomic t) v f = (refl, f)
+  number_of base.Void v f = absurd f
+  number_of (base.Structure s) v f = absurd f
+  number_of base.Mutex v f = absurd f
+  number_of base.Condition v f = absurd f
+  number_of base.Thread v f = absurd f
+  number_of base.Key v f = absurd f
+
+  of_number : (b : Base) (v : Value) → is_scalar_base b ≡ true → IsNumber v → Fits program (number_kind b) v
+  of_number (base.Integer t) v e n = n
+  of_number (base.Atomic t) v e n = n
+  of_number base.Void v e n = absurd (cc)
+  of_number (base.Structure s) v e n = absurd (cc)
+  of_number base.Mutex v e n = absurd (cc)
+  of_number base.Condition v e n = absurd (cc)
+  of_number base.Thread v e n = absurd (cc)
+  of_number base.Key v e n = absurd (cc)
+
+  fits_in : (a b : Base) (x y : Bool) (p q : List Bool) (m n : List ℕ) (v : Value) → is_scalar_base a ≡ is_scalar_base b → same_pointers x y p q ≡ true → same_numbers m n ≡ true
+      → Fits program (kind_in a p m) v → Fits program (kind_in b q n) v
+  fits_in a b x y [] [] [] [] v e f g h = let k = number_of a v h in of_number b v (sym e ∙ k.0) k.1
+  fits_in a b x y (p ∷ ps) (q ∷ qs) [] [] v e f g h = h
+  fits_in a b x y [] (q ∷ qs) [] [] v e f g h = absurd (cc)
+  fits_in a b x y (p ∷ ps) [] [] [] v e f g h = absurd (cc)
+  fits_in a b x y p q (m ∷ ms) n v e f g h = absurd h
+  fits_in a b x y p q [] (n ∷ ns) v e f g h = absurd (cc)
+
+  fits_back : (a b : Base) (x y : Bool) (p q : List Bool) (m n : List ℕ) (v : Value) → is_scalar_base a ≡ is_scalar_base b → same_pointers x y p q ≡ true → same_numbers m n ≡ true
+      → Fits program (kind_in b q n) v → Fits program (kind_in a p m) v
+  fits_back a b x y [] [] [] [] v e f g h = let k = number_of b v h in of_number a v (e ∙ k.0) k.1
+  fits_back a b x y (p ∷ ps) (q ∷ qs) [] [] v e f g h = h
+  fits_back a b x y [] (q ∷ qs) [] [] v e f g h = absurd (cc)
+  fits_back a b x y (p ∷ ps) [] [] [] v e f g h = absurd (cc)
+  fits_back a b x y p q m (n ∷ ns) v e f g h = absurd h
+  fits_back a b x y p q (m ∷ ms) [] v e f g h = absurd (cc)
+
+  -- a value that fits the type at which an object is used fits the object's own type, and the other way round
+  pub to_own : (t own : CType) (v : Value) → same_type t own ≡ true → Fits program (kind_of_type t) v → Fits program (kind_of_type own) v
+  to_own t own v e f = let p = and_true _ _ e in let q = and_true _ _ p.0 in fits_in t.base own.base t.is_const own.is_const t.pointers own.pointers t.sizes own.sizes v (scalar_same t.base own.base q.0) q.1 p.1 f
+
+  pub from_own : (t own : CType) (v : Value) → same_type t own ≡ true → Fits program (kind_of_type own) v → Fits program (kind_of_type t) v
+  from_own t own v e f = let p = and_true _ _ e in let q = and_true _ _ p.0 in fits_back t.base own.base t.is_const own.is_const t.pointers own.pointers t.sizes own.sizes v (scalar_same t.base own.base q.0) q.1 p.1 f
+
+  scalar_in : (a b : Base) (x y : Bool) (p q : List Bool) (m n : List ℕ) → is_scalar_base a ≡ is_scalar_base b → same_pointers x y p q ≡ true → same_numbers m n ≡ true
+      → is_scalar_in a p m ≡ true → is_scalar_in b q n ≡ true
+  scalar_in a b x y [] [] [] [] e f g h = sym e ∙ h
+  scalar_in a b x y (p ∷ ps) (q ∷ qs) [] [] e f g h = refl
+  scalar_in a b x y [] (q ∷ qs) [] [] e f g h = absurd (cc)
+  scalar_in a b x y (p ∷ ps) [] [] [] e f g h = absurd (cc)
+  scalar_in a b x y p q (m ∷ ms) n e f g h = absurd (cc)
+  scalar_in a b x y p q [] (n ∷ ns) e f g h = absurd (cc)
+
+  pub scalar_own : (t own : CType) → same_type t own ≡ true → is_scalar t ≡ true → is_scalar own ≡ true
+  scalar_own t own e s = let p = and_true _ _ e in let q = and_true _ _ p.0 in scalar_in t.base own.base t.is_const own.is_const t.pointers own.pointers t.sizes own.sizes (scalar_same t.base own.base q.0) q.1 p.1 s
