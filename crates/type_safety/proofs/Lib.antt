@@ -6,3 +6,4 @@ pub mod Evaluating
 pub mod Judging
 pub mod Acting
 pub mod Acts
+pub mod Calling
