@@ -65,7 +65,7 @@ module _ (here : Here) (memory : MemoryFits here.program here.memory) (result : 
   structure_side t local q s = and_true (local_is here.program local) (same_type t local.c_type) (and_true (is_structure here.program t) (local_is here.program local && same_type t local.c_type)
       (second_side (is_scalar t) (local_gets here.program local (kind_of_type t)) (is_structure here.program t && (local_is here.program local && same_type t local.c_type)) q s)).1
 
-  read_good : (e : Expr) (t : CType) (local : LocalOf) (values : List ℤ) → is_pointer (kind_of here.program e) ≡ true
+  pub read_good : (e : Expr) (t : CType) (local : LocalOf) (values : List ℤ) → is_pointer (kind_of here.program e) ≡ true
       → ((is_scalar t && local_gets here.program local (kind_of_type t)) || (is_structure here.program t && (local_is here.program local && same_type t local.c_type))) ≡ true
       → Judged (PlaceFails here t e ⊎ IsUnset here t e) Good (no_value values (with_for Plain (place_at here t e) (λ cell. reads here t local cell)))
   unfolding OfType
@@ -75,7 +75,7 @@ module _ (here : Here) (memory : MemoryFits here.program here.memory) (result : 
       (λ v _ f. gives_good _ (Some local) _ [] v tt (into_fits here.program (Some local) (kind_of_type t) v (scalar_side t local q s) f)))
       (λ s. plain_good _ _ _ (local_alike here t local cell (structure_side t local q s).0 (structure_side t local q s).1 o, tt))))
 
-  write_good : (e : Expr) (t : CType) (v : Expr) (values : List ℤ) → is_pointer (kind_of here.program e) ≡ true → takes t (kind_of here.program v) ≡ true
+  pub write_good : (e : Expr) (t : CType) (v : Expr) (values : List ℤ) → is_pointer (kind_of here.program e) ≡ true → takes t (kind_of here.program v) ≡ true
       → Judged (PlaceFails here t e ⊎ (Fails here v ⊎ IsConst here t e)) Good (no_value values (with_for Plain (place_at here t e) (λ cell. with_for Plain (eval here v) (λ w.
       meant_for Plain (is_initialiser e || may_write here cell) (Asks (record { loads = []; stores = Sets cell w (is_atomic t) ∷ []; request = Plain; result = None; into = None; turn = Goes }))))))
   unfolding OfType
@@ -84,7 +84,7 @@ module _ (here : Here) (memory : MemoryFits here.program here.memory) (result : 
       meant_judged _ Good Plain _ _ (λ b. inr (inr (cell, at, (or_false _ _ b).1)))
       (λ _. plain_good _ _ _ (cell_gets here t cell w o (takes_fits here.program t.base t.pointers t.sizes (kind_of here.program v) w q f), tt)))))
 
-  update_good : (e : Expr) (i : IntegerType) (op : BinaryOperator) (u : IntegerType) (v : Expr) (values : List ℤ) → is_pointer (kind_of here.program e) ≡ true → is_number (link_kind op u (A_number i) (kind_of here.program v)) ≡ true
+  pub update_good : (e : Expr) (i : IntegerType) (op : BinaryOperator) (u : IntegerType) (v : Expr) (values : List ℤ) → is_pointer (kind_of here.program e) ≡ true → is_number (link_kind op u (A_number i) (kind_of here.program v)) ≡ true
       → Judged (PlaceFails here (plain_type (base.Atomic i)) e ⊎ ((IsUnset here (plain_type (base.Atomic i)) e ⊎ Fails here v)
       ⊎ (ComputesNothing here (plain_type (base.Atomic i)) e op u v ⊎ IsConst here (plain_type (base.Atomic i)) e))) Good
       (no_value values (with_for Plain (place_at here (plain_type (base.Atomic i)) e) (λ cell. with_for Plain (number_in (here.memory cell)) (λ old. with_for Plain (number_of_value here v) (λ z.
@@ -104,13 +104,13 @@ module _ (here : Here) (memory : MemoryFits here.program here.memory) (result : 
       right_number A_pointer e = refl
       right_number (An_address t) e = refl
 
-  assign_good : (local : LocalOf) (e : Expr) (values : List ℤ) → local_gets here.program local (kind_of here.program e) ≡ true
+  pub assign_good : (local : LocalOf) (e : Expr) (values : List ℤ) → local_gets here.program local (kind_of here.program e) ≡ true
       → Judged (Fails here e) Good (no_value values (with_for Plain (eval here e) (λ v. Asks (record { loads = []; stores = []; request = Plain; result = Some v; into = Some local; turn = Goes }))))
   assign_good local e values q = none_judged _ Good values _ (with_judged _ Good (Fits here.program (kind_of here.program e)) (Fails here e) Plain (eval here e) _
       (evaluated here memory e (gets_right local.c_type.base local.c_type.pointers local.c_type.sizes (kind_of here.program e) (and_true _ _ q).1)) (λ f. f)
       (λ v _ f. gives_good _ (Some local) [] [] v tt (into_fits here.program (Some local) (kind_of here.program e) v q f)))
 
-  copy_good : (e : Expr) (t : CType) (f : Expr) (values : List ℤ) → is_pointer (kind_of here.program e) ≡ true → is_pointer (kind_of here.program f) ≡ true
+  pub copy_good : (e : Expr) (t : CType) (f : Expr) (values : List ℤ) → is_pointer (kind_of here.program e) ≡ true → is_pointer (kind_of here.program f) ≡ true
       → Judged (PlaceFails here t f ⊎ (PlaceFails here t e ⊎ IsConst here t e)) Good (no_value values (with_for Plain (place_at here t f) (λ from. with_for Plain (place_at here t e) (λ to.
       meant_for Plain (is_initialiser e || may_write here to) (Asks (record { loads = read_of from ∷ []; stores = Copies to from ∷ []; request = Plain; result = None; into = None; turn = Goes }))))))
   unfolding OfType
@@ -149,8 +149,12 @@ module _ (here : Here) (memory : MemoryFits here.program here.memory) (result : 
       go true s = or_cases _ _ (and_true _ _ t).1
           (λ k. with_judged _ Good (Fits here.program (kind_of here.program p.value)) (Fails here p.value) Plain (eval here p.value) _
           (evaluated here memory p.value (takes_right p.c_type.base p.c_type.pointers p.c_type.sizes (kind_of here.program p.value) k).0) (λ f. f)
-          (λ v _ f. asks_judged _ Good _ (record { stores = (cell_gets here p.c_type (part_at (whole here object) p) v at (takes_fits here.program p.c_type.base p.c_type.pointers p.c_type.sizes (kind_of here.program p.value) v k f), g.stores);
-            given = g.given; request = g.request; turn = g.turn })))
+          (λ v _ f. asks_judged _ Good _ (record {
+            stores = (cell_gets here p.c_type (part_at (whole here object) p) v at (takes_fits here.program p.c_type.base p.c_type.pointers p.c_type.sizes (kind_of here.program p.value) v k f), g.stores);
+            given = g.given;
+            request = g.request;
+            turn = g.turn;
+          })))
           (λ k. absurd (structure_in p.c_type.base p.c_type.pointers p.c_type.sizes (and_true _ _ (and_true _ _ k).0).0 s))
       go false s = or_cases _ _ (and_true _ _ t).1
           (λ k. absurd (let f : false ≡ true = sym s ∙ (takes_right p.c_type.base p.c_type.pointers p.c_type.sizes (kind_of here.program p.value) k).1 in cc))
@@ -163,10 +167,10 @@ module _ (here : Here) (memory : MemoryFits here.program here.memory) (result : 
 
   -- ---- an automatic object that holds a library object
 
-  unless_good : (F : Type 0) (object : ℕ) (x : Asked) → Judged F Good x → Judged F Good (unless_library here object x)
+  pub unless_good : (F : Type 0) (object : ℕ) (x : Asked) → Judged F Good x → Judged F Good (unless_library here object x)
   unless_good F object x j = if_judged F Good (unwrap_or (option_map (holds_library here.program) (declared_type here.program object)) false) _ x (λ _. bare_good F Declares tt) (λ _. j)
 
-  fill_good : (object : ℕ) (parts : List Part) (values : List ℤ) → list_all (part_is_typed here.program object) parts ≡ true
+  pub fill_good : (object : ℕ) (parts : List Part) (values : List ℤ) → list_all (part_is_typed here.program object) parts ≡ true
       → Judged (PartsFail here parts) Good (no_value values (unless_library here object (filled here object parts)))
   fill_good object parts values t = none_judged _ Good values _ (unless_good _ object _ (further_judged _ Good (PartsFail here parts) Good (fills here (whole here object) parts) _ (fills_good object parts t) (λ f. f)
       (λ ask g. asks_judged _ Good _ (record { stores = (tt, g.stores); given = g.given; request = g.request; turn = g.turn }))))
@@ -220,7 +224,7 @@ module _ (here : Here) (memory : MemoryFits here.program here.memory) (result : 
       own : (t : CType) → takes t (kind_of here.program e) ≡ true → Fits here.program (kind_of_type t) v
       own t k = takes_fits here.program t.base t.pointers t.sizes (kind_of here.program e) v k f.0
 
-  call_good : (function : ℕ) (arguments : List Expr) (into : Option LocalOf) (values : List ℤ) → arguments_are_typed here.program (parameters_at here.program function) arguments ≡ true
+  pub call_good : (function : ℕ) (arguments : List Expr) (into : Option LocalOf) (values : List ℤ) → arguments_are_typed here.program (parameters_at here.program function) arguments ≡ true
       → Judged (AnyFails here arguments) Good (no_value values (with_for Plain (eval_all here arguments) (λ vs. Asks (record { loads = []; stores = []; request = Plain; result = None; into = None; turn = Enters function vs into }))))
   call_good function arguments into values a = none_judged _ Good values _ (with_judged _ Good (AllFit arguments) (AnyFails here arguments) Plain (eval_all here arguments) _
       (all_evaluated arguments (arguments_right (parameters_at here.program function) arguments a)) (λ f. f)
@@ -230,18 +234,18 @@ module _ (here : Here) (memory : MemoryFits here.program here.memory) (result : 
   value_given None into values t = none_judged ⊥ Good values _ (plain_good ⊥ [] [] tt)
   value_given (Some i) into values t = one_judged ⊥ Good (is_in i) values _ (λ z. gives_good ⊥ into [] [] (Number z) tt (into_fits here.program into (A_number i) (Number z) t tt))
 
-  external_good : (arguments : List Expr) (value : Option IntegerType) (into : Option LocalOf) (values : List ℤ) → list_all (λ e. is_number (kind_of here.program e)) arguments ≡ true → external_is_typed here.program value into ≡ true
+  pub external_good : (arguments : List Expr) (value : Option IntegerType) (into : Option LocalOf) (values : List ℤ) → list_all (λ e. is_number (kind_of here.program e)) arguments ≡ true → external_is_typed here.program value into ≡ true
       → Judged (AnyFails here arguments) Good (further (external values value into) (λ ask. with_for Plain (eval_all here arguments) (λ vs. Asks ask)))
   external_good arguments value into values n t = further_judged _ Good ⊥ Good (external values value into) _ (value_given value into values t) (λ f. absurd f) (λ ask g.
       with_judged _ Good (AllFit arguments) (AnyFails here arguments) Plain (eval_all here arguments) _ (all_evaluated arguments (numbers_right arguments n)) (λ f. f) (λ vs _ _. asks_judged _ Good ask g))
 
-  return_good : (e : Expr) (values : List ℤ) → takes result (kind_of here.program e) ≡ true
+  pub return_good : (e : Expr) (values : List ℤ) → takes result (kind_of here.program e) ≡ true
       → Judged (Fails here e) Good (no_value values (with_for Plain (eval here e) (λ v. Asks (record { loads = []; stores = []; request = Plain; result = None; into = None; turn = Leaves (Some v) }))))
   return_good e values k = none_judged _ Good values _ (with_judged _ Good (Fits here.program (kind_of here.program e)) (Fails here e) Plain (eval here e) _
       (evaluated here memory e (takes_right result.base result.pointers result.sizes (kind_of here.program e) k).0) (λ f. f)
       (λ v _ f. turns_good _ (Leaves (Some v)) (takes_fits here.program result.base result.pointers result.sizes (kind_of here.program e) v k f)))
 
-  evaluate_good : (e : Expr) (values : List ℤ) → is_right (kind_of here.program e) ≡ true
+  pub evaluate_good : (e : Expr) (values : List ℤ) → is_right (kind_of here.program e) ≡ true
       → Judged (Fails here e) Good (no_value values (with_for Plain (eval here e) (λ v. Asks (record { loads = []; stores = []; request = Plain; result = None; into = None; turn = Goes }))))
   evaluate_good e values r = none_judged _ Good values _ (with_judged _ Good (Fits here.program (kind_of here.program e)) (Fails here e) Plain (eval here e) _ (evaluated here memory e r) (λ f. f) (λ v _ f. plain_good _ [] [] tt))
 
@@ -252,13 +256,13 @@ module _ (here : Here) (memory : MemoryFits here.program here.memory) (result : 
   of_condition A_pointer e = refl
   of_condition (An_address t) e = refl
 
-  branch_good : (e : Expr) (into : Option LocalOf) (pair : ℕ) (values : List ℤ) → is_condition (kind_of here.program e) ≡ true → into_int here.program into ≡ true
+  pub branch_good : (e : Expr) (into : Option LocalOf) (pair : ℕ) (values : List ℤ) → is_condition (kind_of here.program e) ≡ true → into_int here.program into ≡ true
       → Judged (Fails here e ⊎ Dead here (eval here e)) Good (no_value values (with_for Plain (option_and_then (is_true here) (eval here e)) (λ b. if_so (pair == (cond b 0 1))
       (Asks (record { loads = []; stores = []; request = Plain; result = Some (Number (truth b)); into = into; turn = Goes })))))
   branch_good e into pair values c t = none_judged _ Good values _ (with_judged _ Good (λ b. option_and_then (is_true here) (eval here e) ≡ Some b) (Fails here e ⊎ Dead here (eval here e)) Plain (option_and_then (is_true here) (eval here e)) _
       (truthful here (kind_of here.program e) (eval here e) (Fails here e) c (evaluated here memory e (of_condition _ c))) (λ f. f)
       (λ b _ _. so_judged _ Good _ _ (λ _. gives_good _ into [] [] (Number (truth b)) tt (into_fits here.program into (A_number Int) (Number (truth b)) t tt))))
 
-  switch_good : (e : Expr) (clauses : List Clause) (pair : ℕ) (values : List ℤ) → is_number (kind_of here.program e) ≡ true
+  pub switch_good : (e : Expr) (clauses : List Clause) (pair : ℕ) (values : List ℤ) → is_number (kind_of here.program e) ≡ true
       → Judged (Fails here e) Good (no_value values (with_for Plain (number_of_value here e) (λ z. if_so (pair == clause_of z clauses) (Asks (record { loads = []; stores = []; request = Plain; result = None; into = None; turn = Goes })))))
   switch_good e clauses pair values n = none_judged _ Good values _ (with_judged _ Good _ (Fails here e) Plain (number_of_value here e) _ (number_value here memory e n) (λ f. f) (λ z _ _. so_judged _ Good _ _ (λ _. plain_good _ [] [] tt)))

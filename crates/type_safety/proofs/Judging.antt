@@ -128,6 +128,10 @@ module _ (F : Type 0) (P : Ask → Type 0) where
   further_judged G Q Not_so f h g k = tt
   further_judged G Q (No_meaning request) f h g k = g h
 
+pub not_asked : (F : Type 0) (P : Ask → Type 0) → Judged F P Not_so
+unfolding Judged
+not_asked F P = tt
+
 pub widened : (F G : Type 0) (P : Ask → Type 0) (x : Asked) → (F → G) → Judged F P x → Judged G P x
 unfolding Judged
 widened F G P Not_so f j = tt

@@ -7,3 +7,4 @@ pub mod Judging
 pub mod Acting
 pub mod Acts
 pub mod Calling
+pub mod Typed
