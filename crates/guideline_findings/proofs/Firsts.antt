@@ -3,9 +3,9 @@ use Rattle.std.proofs.Common.{◌≡◌, inl, inr, true, ℕ, zero, suc, ◌<◌
 use Rattle.c_program.specs.declared.guideline.Guideline.{Guideline}
 use Rattle.c_program.specs.declared.types.Place.{Place}
 use Rattle.c_program.specs.declared.program.Program.{Program}
-use Rattle.guideline_findings.specs.Facts.{Facts}
+use Rattle.static_facts.specs.Facts.{Facts}
 use Rattle.guideline_findings.specs.Findings.{dependent, is_semantic, IsEarlier, IsFoundInText, IsClean}
-use Rattle.guideline_findings.specs.Premises.{HasCleanText}
+use Rattle.guideline_findings.specs.Silence.{HasCleanText}
 
 -- what holds nowhere first holds nowhere
 module _ (P : Place → Type 0) (none : (p : Place) → P p → ((q : Place) → P q → IsEarlier q p → ⊥) → ⊥) where

@@ -13,9 +13,9 @@ use Rattle.c_program.specs.Types.{is_declared}
 use Rattle.c_program.specs.Values.{Location}
 use Rattle.c_program.specs.Control.{Spot, Point}
 use Rattle.c_program.specs.Faults.{Sort, A_mutex, A_condition, A_key, Initialises, Ends_life}
-use Rattle.mutex_ownership.specs.Findings.{IsUnlockedUnowned, IsLockedAgain, IsKeptAtEnd, IsDestroyedOwned}
-use Rattle.guideline_findings.specs.Facts.{Facts}
-use Rattle.guideline_findings.specs.Candidates.{IsReachable}
+use Rattle.guideline_findings.specs.Ownership.{IsUnlockedUnowned, IsLockedAgain, IsKeptAtEnd, IsDestroyedOwned}
+use Rattle.static_facts.specs.Facts.{Facts}
+use Rattle.static_facts.specs.Points.{IsReachable}
 use Rattle.guideline_findings.specs.Races.{MayRace}
 use Rattle.guideline_findings.specs.Graph.{MayBlock}
 use Rattle.guideline_findings.specs.Threads.{CreatesOutside, CreatesRepeatedly, ReleasesAgain, ReleasesOutside}

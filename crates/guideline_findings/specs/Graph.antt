@@ -10,9 +10,10 @@ use Rattle.c_program.specs.Control.{Spot, Point}
 use Rattle.c_program.specs.Faults.{A_mutex, A_thread}
 use Rattle.c_program.specs.Breaks.{Chain}
 use Rattle.c_program.specs.Paths.{IsPoint}
-use Rattle.mutex_ownership.specs.Findings.{MayOwn}
-use Rattle.guideline_findings.specs.Facts.{Facts}
-use Rattle.guideline_findings.specs.Candidates.{IsReachable, IsCandidateOf, is_creation, is_join, thread_made_at}
+use Rattle.guideline_findings.specs.Ownership.{MayOwn}
+use Rattle.static_facts.specs.Facts.{Facts}
+use Rattle.static_facts.specs.Points.{IsReachable, is_creation, thread_of}
+use Rattle.static_facts.specs.Candidates.{IsCandidate, is_join}
 
 -- a mutex, or the end of a created thread
 pub data Vertex : Type 0 where
@@ -30,12 +31,12 @@ takes_mutex _ = None
 pub data Wants (program : Program) (facts : Facts) (point : Point) : Location → Vertex → Type 0 where
   -- a candidate of a taking
   wants_mutex : (argument : ℕ) (mutex : Location) → takes_mutex (act_at program point.spot.action) ≡ Some argument
-      → IsCandidateOf program facts point argument A_mutex mutex → Wants program facts point mutex (Of_mutex mutex)
+      → IsCandidate program facts.names point argument A_mutex mutex → Wants program facts point mutex (Of_mutex mutex)
   -- the end of each thread whose creation may name the candidate of a join
   wants_end : (object : Location) (creator : List Spot) (creation : Point) → is_join (act_at program point.spot.action) ≡ true
-      → IsCandidateOf program facts point 0 A_thread object
+      → IsCandidate program facts.names point 0 A_thread object
       → IsPoint program creator creation → is_creation (act_at program creation.spot.action) ≡ true
-      → IsCandidateOf program facts creation 0 A_thread object → Wants program facts point object (Of_end (thread_made_at creation))
+      → IsCandidate program facts.names creation 0 A_thread object → Wants program facts point object (Of_end (thread_of creation))
 
 -- what a thread has at a point: a mutex that may have depth 1 or more there, and its own end, where it is a created one
 pub data Has (program : Program) (facts : Facts) (thread : List Spot) (point : Point) : Vertex → Type 0 where

@@ -4,13 +4,15 @@ use Rattle.c_program.specs.declared.program.Program.{Program}
 use Rattle.c_program.specs.Values.{Location}
 use Rattle.c_program.specs.Control.{Spot, Point}
 use Rattle.c_program.specs.Faults.{Sort, How, Initialises, Ends_life}
-use Rattle.guideline_findings.specs.Facts.{Facts, ThreadMayBe, LifeMayBe, A_thread_runs, Was_detached, Is_unmade, Is_alive, Is_dead}
-use Rattle.guideline_findings.specs.Candidates.{IsReachable, TakesCandidate}
+use Rattle.static_facts.specs.ObjectStates.{Is_live, Is_detached, Is_unmade, Is_dead}
+use Rattle.static_facts.specs.Facts.{Facts, ThreadMayBe, LifeMayBe}
+use Rattle.static_facts.specs.Points.{IsReachable}
+use Rattle.static_facts.specs.Candidates.{TakesCandidate}
 
 -- a candidate of a call in this way, at a reachable point
 pub record Accesses (program : Program) (facts : Facts) (thread : List Spot) (point : Point) (how : How) (sort : Sort) (location : Location) : Type 0 where
   pub reachable : IsReachable program thread point
-  pub takes : TakesCandidate program facts point how sort location
+  pub takes : TakesCandidate program facts.names point how sort location
 
 abbrev pub IsUseOrEnd : How → Type 0
 IsUseOrEnd Initialises = ⊥
@@ -26,7 +28,7 @@ pub record MayBeBefore (program : Program) (facts : Facts) (thread : List Spot) 
 -- `second`: initialised, where it may be live
 pub record MayBeSecond (program : Program) (facts : Facts) (thread : List Spot) (point : Point) (sort : Sort) (location : Location) : Type 0 where
   pub accesses : Accesses program facts thread point Initialises sort location
-  pub alive : LifeMayBe facts thread point sort location Is_alive
+  pub alive : LifeMayBe facts thread point sort location Is_live
 
 -- `outside`: initialised, or destroyed, outside the initial thread
 pub record IsOutside (program : Program) (facts : Facts) (thread : List Spot) (point : Point) (how : How) (sort : Sort) (location : Location) : Type 0 where
@@ -43,7 +45,7 @@ pub record MayBeDead (program : Program) (facts : Facts) (thread : List Spot) (p
 -- whether a created thread may be running at a point of the initial thread: it is not plain, or its object may be held there
 abbrev pub MayRunOf : Facts → Point → Option Location → Type 0
 MayRunOf facts point None = Unit {0}
-MayRunOf facts point (Some object) = ThreadMayBe facts [] point object A_thread_runs ⊎ ThreadMayBe facts [] point object Was_detached
+MayRunOf facts point (Some object) = ThreadMayBe facts [] point object Is_live ⊎ ThreadMayBe facts [] point object Is_detached
 
 -- `busy`: a destruction in the initial thread of a candidate that some created thread may access, which may not have ended
 pub record MayBeBusy (program : Program) (facts : Facts) (point : Point) (sort : Sort) (location : Location) : Type 0 where

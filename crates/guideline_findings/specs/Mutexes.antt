@@ -1,5 +1,4 @@
 -- Rules 21.26 and 22.19: timed locks of mutexes that are not timed, and condition variables with several mutexes.
--- The rows of Rules 22.16, 22.17 and 22.18 are those of `owners`.
 use Rattle.std.specs.Prelude.{◌≡◌, ◌≢◌, Bool, true, false, List, Option}
 use Rattle.c_program.specs.declared.expression.Expr.{Expr}
 use Rattle.c_program.specs.declared.action.Local.{Local}
@@ -12,8 +11,9 @@ use Rattle.c_program.specs.Syntax.{act_at}
 use Rattle.c_program.specs.Values.{Location}
 use Rattle.c_program.specs.Control.{Spot, Point}
 use Rattle.c_program.specs.Faults.{A_mutex, A_condition}
-use Rattle.guideline_findings.specs.Facts.{Facts}
-use Rattle.guideline_findings.specs.Candidates.{IsReachable, IsCandidateOf}
+use Rattle.static_facts.specs.Facts.{Facts}
+use Rattle.static_facts.specs.Points.{IsReachable}
+use Rattle.static_facts.specs.Candidates.{IsCandidate}
 
 -- ---- Rule 21.26
 
@@ -30,14 +30,14 @@ pub record MayBeUntimed (program : Program) (facts : Facts) (location : Location
   pub kind : MutexKind
   pub into : Option Local
   pub is_init : act_at program point.spot.action ≡ act.Library (lib.MutexInit expression kind) into
-  pub candidate : IsCandidateOf program facts point 0 A_mutex location
+  pub candidate : IsCandidate program facts.names point 0 A_mutex location
   pub is_untimed : kind.is_timed ≡ false
 
 -- `kind`: a candidate of a timed lock that may not be timed
 pub record LocksUntimed (program : Program) (facts : Facts) (thread : List Spot) (point : Point) (location : Location) : Type 0 where
   pub reachable : IsReachable program thread point
   pub locks : is_timed_lock (act_at program point.spot.action) ≡ true
-  pub candidate : IsCandidateOf program facts point 0 A_mutex location
+  pub candidate : IsCandidate program facts.names point 0 A_mutex location
   pub may_be : MayBeUntimed program facts location
 
 -- ---- Rule 22.19
@@ -51,8 +51,8 @@ is_wait _ = false
 pub record MayWait (program : Program) (facts : Facts) (thread : List Spot) (point : Point) (condition mutex : Location) : Type 0 where
   pub reachable : IsReachable program thread point
   pub waits : is_wait (act_at program point.spot.action) ≡ true
-  pub names : IsCandidateOf program facts point 0 A_condition condition
-  pub with_mutex : IsCandidateOf program facts point 1 A_mutex mutex
+  pub names : IsCandidate program facts.names point 0 A_condition condition
+  pub with_mutex : IsCandidate program facts.names point 1 A_mutex mutex
 
 -- the waits on a condition variable have two candidate mutexes
 pub record HasTwoMutexes (program : Program) (facts : Facts) (condition : Location) : Type 0 where
@@ -70,5 +70,5 @@ pub record HasTwoMutexes (program : Program) (facts : Facts) (condition : Locati
 pub record WaitsWithSecond (program : Program) (facts : Facts) (thread : List Spot) (point : Point) (condition : Location) : Type 0 where
   pub reachable : IsReachable program thread point
   pub waits : is_wait (act_at program point.spot.action) ≡ true
-  pub candidate : IsCandidateOf program facts point 0 A_condition condition
+  pub candidate : IsCandidate program facts.names point 0 A_condition condition
   pub two : HasTwoMutexes program facts condition

@@ -1,22 +1,20 @@
 -- Directive 5.1: accesses of one region at points that nothing orders.
-use Rattle.std.specs.Prelude.{◌≡◌, true, false, ◌||◌, ◌&&◌, List}
+use Rattle.std.specs.Prelude.{List}
 use Rattle.c_program.specs.declared.program.Program.{Program}
 use Rattle.c_program.specs.Values.{Cell, Location, IsRegion}
 use Rattle.c_program.specs.Control.{Spot, Point}
-use Rattle.mutex_ownership.specs.Depths.{IsSurelyHeld}
-use Rattle.mutex_ownership.specs.Laws.{IsMutexAt}
-use Rattle.guideline_findings.specs.Facts.{Manner, Facts, MayAccess, AreOrdered}
-use Rattle.guideline_findings.specs.Candidates.{IsReachable}
-
--- one of the two writes, and they are not both atomic
-abbrev pub AreInConflict : Manner → Manner → Type 0
-AreInConflict a b = ((a.writes || b.writes) ≡ true) × ((a.is_atomic && b.is_atomic) ≡ false)
+use Rattle.c_program.specs.Faults.{A_mutex}
+use Rattle.static_facts.specs.Depths.{IsSurelyHeld}
+use Rattle.pointer_targets.specs.LibraryObjects.{IsObjectAt}
+use Rattle.pointer_targets.specs.Manners.{Manner, AreInConflict}
+use Rattle.static_facts.specs.Facts.{Facts, MayAccess, AreOrdered}
+use Rattle.static_facts.specs.Points.{IsReachable}
 
 -- some mutex is surely held at both points
 pub record ShareMutex (program : Program) (facts : Facts) (s : List Spot) (p : Point) (t : List Spot) (q : Point) : Type 0 where
   pub cell : Cell
   pub mutex : Location
-  pub is_mutex : IsMutexAt program cell mutex
+  pub is_mutex : IsObjectAt program A_mutex cell mutex
   pub at_first : IsSurelyHeld program facts.names mutex s p
   pub at_second : IsSurelyHeld program facts.names mutex t q
 

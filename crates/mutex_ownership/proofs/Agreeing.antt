@@ -34,10 +34,10 @@ use Rattle.c_program.proofs.Stays.{others}
 use Rattle.path_simulation.proofs.Plain.{string_left}
 use Rattle.path_simulation.specs.Tracks.{Track}
 use Rattle.path_simulation.specs.Simulates.{LastStep, GoesOn, Simulates, EachIsFollowed, origin_in}
-use Rattle.mutex_ownership.specs.Names.{Names, MayName, IsExact}
+use Rattle.pointer_targets.specs.Names.{Names, MayName, IsExact}
 use Rattle.mutex_ownership.specs.Premises.{Premises, LeadsToMutex, is_mutex}
-use Rattle.mutex_ownership.specs.Outcomes.{Remembered, Test, kept_behind, forgets, follows_outcome, remembered_by, is_int_local, test_of, is_tested_side, decided, is_side}
-use Rattle.mutex_ownership.specs.Depths.{Mark, marked, one_more, Doing, Does_lock, Does_unlock, Does_destroy, Does_try, doing_of, DepthMoves, IsNoTry, DepthStep, passes, moves, leaves, succeeds, fails, may_succeed, may_fail, elsewhere, depths}
+use Rattle.static_facts.specs.Outcomes.{Remembered, Test, kept_behind, forgets, follows_outcome, remembered_by, is_int_local, test_of, is_tested_side, decided, is_side}
+use Rattle.static_facts.specs.Depths.{Mark, marked, one_more, Doing, Does_lock, Does_unlock, Does_destroy, Does_try, doing_of, DepthMoves, IsNoTry, DepthStep, passes, moves, leaves, succeeds, fails, may_succeed, may_fail, elsewhere, depths}
 use Rattle.mutex_ownership.specs.Owning.{level_of, depth_with_wait, HasFrame, HasOutcome, OutcomeAt, OutcomeIn, AgreesIn, Agrees}
 use Rattle.mutex_ownership.proofs.Tests.{test_decides}
 use Rattle.mutex_ownership.proofs.Later.{own_later, own_origin, lt_differs, thread_made}

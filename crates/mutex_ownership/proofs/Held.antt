@@ -20,9 +20,9 @@ use Rattle.c_program.proofs.Asks.{EachAsk, from_each}
 use Rattle.c_program.proofs.Cells.{cell_same}
 use Rattle.c_program.proofs.Finds.{finds}
 use Rattle.path_simulation.specs.Simulates.{LastStep}
-use Rattle.mutex_ownership.specs.Names.{Names}
+use Rattle.pointer_targets.specs.Names.{Names}
 use Rattle.mutex_ownership.specs.Premises.{Premises}
-use Rattle.mutex_ownership.specs.Depths.{MayHold, IsSurelyHeld}
+use Rattle.static_facts.specs.Depths.{MayHold, IsSurelyHeld}
 use Rattle.mutex_ownership.specs.Owning.{level_of, depth_with_wait}
 use Rattle.mutex_ownership.specs.Laws.{IsMutexAt, ReleasesAt, TakesAt, HeldIsOrdered}
 use Rattle.mutex_ownership.proofs.MutexAsks.{RetakesBy, retakes_by}

@@ -27,8 +27,8 @@ use Rattle.c_program.proofs.Cells.{and_true, numbers_same}
 use Rattle.c_program.proofs.Far.{local_cell_of}
 use Rattle.c_program.proofs.Logic.{not_true, or_false}
 use Rattle.c_program.proofs.Onward.{Kind, kind_of, Goes_on}
-use Rattle.mutex_ownership.specs.Outcomes.{is_int, is_unaddressed, is_int_local}
-use Rattle.mutex_ownership.specs.Depths.{Doing, doing_of}
+use Rattle.static_facts.specs.Outcomes.{is_int, is_unaddressed, is_int_local}
+use Rattle.static_facts.specs.Depths.{Doing, doing_of}
 use Rattle.mutex_ownership.proofs.MutexAsks.{cell_equal}
 use Rattle.mutex_ownership.proofs.Tests.{result_int}
 

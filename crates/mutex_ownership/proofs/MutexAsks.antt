@@ -18,7 +18,7 @@ use Rattle.c_program.specs.Counters.{arguments_of}
 use Rattle.c_program.specs.Laws.{Names}
 use Rattle.c_program.proofs.Asks.{EachAsk, none_each, one_each, with_each, meant_each, so_each}
 use Rattle.mutex_ownership.specs.Premises.{is_mutex}
-use Rattle.mutex_ownership.specs.Depths.{Doing, Does_lock, Does_unlock, Does_destroy, Does_try, doing_of}
+use Rattle.static_facts.specs.Depths.{Doing, Does_lock, Does_unlock, Does_destroy, Does_try, doing_of}
 
 -- an argument of the call leads to the mutex
 pub record Leads (here : Here) (action : Act) (argument : ℕ) (m : Cell) : Type 0 where

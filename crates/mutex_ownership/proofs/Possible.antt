@@ -9,9 +9,9 @@ use Rattle.c_program.specs.Runs.{IsGoodRun, state_after}
 use Rattle.c_program.specs.WellFormed.{IsWellFormed}
 use Rattle.c_program.specs.Paths.{Offers, stands_at}
 use Rattle.path_simulation.specs.Tracks.{IsPossible}
-use Rattle.mutex_ownership.specs.Names.{Names}
+use Rattle.pointer_targets.specs.Names.{Names}
 use Rattle.mutex_ownership.specs.Premises.{Premises}
-use Rattle.mutex_ownership.specs.Depths.{Mark, marked, depths, MayHold}
+use Rattle.static_facts.specs.Depths.{Mark, marked, depths, MayHold}
 use Rattle.mutex_ownership.specs.Owning.{level_of, depth_with_wait}
 use Rattle.mutex_ownership.specs.Laws.{IsMutexAt, IsOutside, EachDepthIsPossible}
 use Rattle.mutex_ownership.proofs.Simulating.{followed}

@@ -29,7 +29,7 @@ use Rattle.c_program.proofs.Counters.{sound_run}
 use Rattle.c_program.proofs.Sound.{Sound, StandFits}
 use Rattle.path_simulation.specs.Simulates.{LastStep, GoesOn}
 use Rattle.path_simulation.proofs.Plain.{string_left}
-use Rattle.mutex_ownership.specs.Outcomes.{Remembered, forgets}
+use Rattle.static_facts.specs.Outcomes.{Remembered, forgets}
 use Rattle.mutex_ownership.specs.Owning.{behind_call, HasFrame, HasOutcome}
 use Rattle.mutex_ownership.proofs.Owner.{or_left, or_right}
 

@@ -23,10 +23,10 @@ use Rattle.c_program.specs.Paths.{Offers, stands_at}
 use Rattle.c_program.specs.Laws.{Names as RequestNames, IsRequestBy, NamesAt}
 use Rattle.c_program.proofs.Asking.{by_a_move}
 use Rattle.c_program.proofs.Cells.{and_true}
-use Rattle.mutex_ownership.specs.Names.{Names}
+use Rattle.pointer_targets.specs.Names.{Names}
 use Rattle.mutex_ownership.specs.Premises.{Premises, LeadsToMutex, is_mutex, MutexesAreStatic}
-use Rattle.mutex_ownership.specs.Depths.{MayHold}
-use Rattle.mutex_ownership.specs.Findings.{IsCandidate, MayOwn, gives_up, locks, destroys, IsUnlockedUnowned, IsLockedAgain, MayBePlain, IsDestroyedOwned, IsKeptAtEnd, Nowhere}
+use Rattle.static_facts.specs.Depths.{MayHold}
+use Rattle.guideline_findings.specs.Ownership.{IsCandidate, MayOwn, gives_up, locks, destroys, IsUnlockedUnowned, IsLockedAgain, MayBePlain, IsDestroyedOwned, IsKeptAtEnd, Nowhere}
 use Rattle.mutex_ownership.specs.Laws.{IsMutexAt, EachDepthIsPossible, SilentOn22_17}
 use Rattle.mutex_ownership.proofs.MutexAsks.{Leads, place_mutex}
 use Rattle.mutex_ownership.proofs.Possible.{possible}

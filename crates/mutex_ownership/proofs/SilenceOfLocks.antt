@@ -27,11 +27,11 @@ use Rattle.c_program.proofs.Onward.{Kind, Goes_on, Calls, Returns, Exits_all, ki
 use Rattle.c_program.proofs.Turns.{Fits}
 use Rattle.path_simulation.specs.Simulates.{LastStep}
 use Rattle.path_simulation.proofs.Plain.{is_reached}
-use Rattle.mutex_ownership.specs.Names.{Names}
+use Rattle.pointer_targets.specs.Names.{Names}
 use Rattle.mutex_ownership.specs.Premises.{Premises, LeadsToMutex, is_mutex, MutexesAreStatic}
-use Rattle.mutex_ownership.specs.Depths.{MayHold, depths, marked}
+use Rattle.static_facts.specs.Depths.{MayHold, depths, marked}
 use Rattle.mutex_ownership.specs.Owning.{level_of, depth_with_wait}
-use Rattle.mutex_ownership.specs.Findings.{IsCandidate, MayOwn, IsLockedAgain, MayBePlain, IsDestroyedOwned, IsKeptAtEnd, EndsAt, locks, Nowhere}
+use Rattle.guideline_findings.specs.Ownership.{IsCandidate, MayOwn, IsLockedAgain, MayBePlain, IsDestroyedOwned, IsKeptAtEnd, EndsAt, locks, Nowhere}
 use Rattle.mutex_ownership.specs.Laws.{IsMutexAt, SilentOn22_16, SilentOn22_18}
 use Rattle.mutex_ownership.proofs.MutexAsks.{Leads, place_mutex}
 use Rattle.mutex_ownership.proofs.Begun.{Begun, begun}

@@ -26,10 +26,10 @@ use Rattle.c_program.proofs.Named.{named}
 use Rattle.c_program.proofs.Stays.{others, origins}
 use Rattle.path_simulation.specs.Simulates.{LastStep, GoesOn, Simulates, EachIsFollowed, origin_in}
 use Rattle.path_simulation.proofs.Simulated.{simulated}
-use Rattle.mutex_ownership.specs.Names.{Names}
+use Rattle.pointer_targets.specs.Names.{Names}
 use Rattle.mutex_ownership.specs.Premises.{Premises, is_mutex}
-use Rattle.mutex_ownership.specs.Outcomes.{Remembered}
-use Rattle.mutex_ownership.specs.Depths.{Mark, marked, DepthStep, depths}
+use Rattle.static_facts.specs.Outcomes.{Remembered}
+use Rattle.static_facts.specs.Depths.{Mark, marked, DepthStep, depths}
 use Rattle.mutex_ownership.specs.Owning.{level_of, depth_with_wait, HasFrame, HasOutcome, OutcomeAt, OutcomeIn, AgreesIn, Agrees}
 use Rattle.mutex_ownership.proofs.Later.{own_later, own_origin, lt_differs, thread_made, new_stand}
 use Rattle.mutex_ownership.proofs.Owner.{Owns, Owner, owner_in, depth_stays, depth_own, or_left, or_right}

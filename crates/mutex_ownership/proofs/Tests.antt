@@ -14,7 +14,7 @@ use Rattle.c_program.specs.Types.{is_zero, converted}
 use Rattle.c_program.specs.Values.{Value, Number, truth, unary as unary_value}
 use Rattle.c_program.specs.Evaluation.{Here, root_of, eval, is_true, on_number, operated, of_two, chained}
 use Rattle.c_program.specs.Faults.{is_result}
-use Rattle.mutex_ownership.specs.Outcomes.{Test, test, whole_local, local_in, converted_local, equality, right_constant, sides, if_equality, test_in_links, test_not, test_of, same_bool, decided}
+use Rattle.static_facts.specs.Outcomes.{Test, test, whole_local, local_in, converted_local, equality, right_constant, sides, if_equality, test_in_links, test_not, test_of, same_bool, decided}
 
 -- ---- numbers
 

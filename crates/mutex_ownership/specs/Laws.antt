@@ -10,10 +10,10 @@ use Rattle.c_program.specs.Runs.{IsGoodRun, IsRun, state_after, Moment, moment_a
 use Rattle.c_program.specs.Happens.{Before, releases, takes, state_at}
 use Rattle.c_program.specs.Breaks.{Breaks, point_of}
 use Rattle.c_program.specs.Paths.{Offers, stands_at}
-use Rattle.mutex_ownership.specs.Names.{Names}
+use Rattle.pointer_targets.specs.Names.{Names}
 use Rattle.mutex_ownership.specs.Premises.{is_mutex}
-use Rattle.mutex_ownership.specs.Depths.{MayHold, IsSurelyHeld}
-use Rattle.mutex_ownership.specs.Findings.{IsUnlockedUnowned, IsLockedAgain, IsKeptAtEnd, IsDestroyedOwned, Nowhere}
+use Rattle.static_facts.specs.Depths.{MayHold, IsSurelyHeld}
+use Rattle.guideline_findings.specs.Ownership.{IsUnlockedUnowned, IsLockedAgain, IsKeptAtEnd, IsDestroyedOwned, Nowhere}
 
 -- a static mutex
 pub record IsMutexAt (program : Program) (c : Cell) (location : Location) : Type 0 where

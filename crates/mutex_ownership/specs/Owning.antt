@@ -10,8 +10,8 @@ use Rattle.c_program.specs.Faults.{is_result}
 use Rattle.c_program.specs.Counters.{IsUnaddressed, is_into, storage_of}
 use Rattle.c_program.specs.Step.{Choice}
 use Rattle.c_program.specs.Runs.{state_after}
-use Rattle.mutex_ownership.specs.Outcomes.{Remembered}
-use Rattle.mutex_ownership.specs.Depths.{Mark}
+use Rattle.static_facts.specs.Outcomes.{Remembered}
+use Rattle.static_facts.specs.Depths.{Mark}
 
 -- ---- the depth
 

@@ -17,7 +17,7 @@ use Rattle.c_program.specs.Step.{Choice}
 use Rattle.c_program.specs.Runs.{IsGoodRun, state_after}
 use Rattle.c_program.specs.Counters.{arguments_of}
 use Rattle.c_program.specs.Paths.{stands_at, Offers}
-use Rattle.mutex_ownership.specs.Names.{Names, MayName, IsExact}
+use Rattle.pointer_targets.specs.Names.{Names, MayName, IsExact}
 
 abbrev pub is_mutex : Program → Cell → Bool
 is_mutex program cell = unwrap_or (option_map (same_type mutex_type) (type_of_cell program cell)) false

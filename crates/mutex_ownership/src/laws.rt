@@ -1,7 +1,7 @@
 //! The laws of owners, for proofs over the runs of a program.
 ghost use Rattle.c_program.specs.WellFormed.{IsWellFormed};
 ghost use Rattle.mutex_ownership.specs.Laws.{EachDepthIsPossible, HeldIsOrdered, IsHandedOver, SilentOn22_16, SilentOn22_17, SilentOn22_18};
-ghost use Rattle.mutex_ownership.specs.Names.{Names};
+ghost use Rattle.pointer_targets.specs.Names.{Names};
 ghost use Rattle.mutex_ownership.specs.Premises.{Premises, MutexesAreStatic};
 
 use c_program::program::Program;

@@ -25,7 +25,7 @@ use Rattle.c_program.specs.Requests.{Load, Store, Sets, Copies, Clears, Request,
 use Rattle.c_program.specs.Counters.{is_constant_in, constant_in}
 use Rattle.c_program.proofs.Asks.{EachAsk, with_each, so_each, meant_each, none_each, one_each, if_each, further_each, unless_each}
 use Rattle.pointer_targets.specs.Places.{Place, own_place, place_in, below, place_of}
-use Rattle.pointer_targets.specs.PointsTo.{Stands, Names, Holds, written, assigned, read, read_whole, copied, filled, filled_whole, stored, loaded, passed, handed, joined, got, set, exited, sets, IsOfType}
+use Rattle.pointer_targets.specs.PointsTo.{Stands, MayPointTo, Holds, written, assigned, read, read_whole, copied, filled, filled_whole, stored, loaded, passed, handed, joined, got, set, exited, sets, IsOfType}
 use Rattle.pointer_targets.proofs.Values.{OnAddress, OnOption, on_map, place_here, own_type, has_type, and_right}
 use Rattle.pointer_targets.proofs.Evaluated.{evaluated}
 use Rattle.pointer_targets.proofs.Fine.{Points, EachFine, IntoFine, Given, Passed, BoundFine, Handed, RequestFine, Leaving, TurnFine, AskFine, ResultFine, KeptFine}
@@ -41,7 +41,7 @@ module _ (program : Program) (strings : ℕ → List Spot) (B : Root → Type 0)
   string = strings here.frame
 
   abbrev N : Expr → Cell → Type 0
-  N e cell = B cell.root × Names program string spot.rounds e (place_of strings cell)
+  N e cell = B cell.root × MayPointTo program string spot.rounds e (place_of strings cell)
 
   abbrev P : Ask → Type 0
   P ask = AskFine program strings B string spot ask
@@ -204,7 +204,7 @@ module _ (program : Program) (strings : ℕ → List Spot) (B : Root → Type 0)
   -- ---- calls
 
   -- the arguments, each at its parameter
-  bound_fine : (ps : List ℕ) (es : List Expr) → ((i p : ℕ) (e : Expr) → slice_get ps i ≡ Some p → slice_get es i ≡ Some e → (target : Place) → Names program string spot.rounds e target → Holds program (own_place (spot ∷ string) p []) target)
+  bound_fine : (ps : List ℕ) (es : List Expr) → ((i p : ℕ) (e : Expr) → slice_get ps i ≡ Some p → slice_get es i ≡ Some e → (target : Place) → MayPointTo program string spot.rounds e target → Holds program (own_place (spot ∷ string) p []) target)
       → (vs : List Value) → eval_all here es ≡ Some vs → BoundFine program strings B string spot ps vs
   bound_fine ps [] h [] q = none ps
     where
@@ -215,14 +215,14 @@ module _ (program : Program) (strings : ℕ → List Spot) (B : Root → Type 0)
   bound_fine ps (e ∷ es) h vs q = go (eval here e) (eval_all here es) (value_named e) refl q (λ qs g ws k. bound_fine qs es g ws k)
     where
       Rest : Type 0
-      Rest = (qs : List ℕ) → ((i p : ℕ) (d : Expr) → slice_get qs i ≡ Some p → slice_get es i ≡ Some d → (target : Place) → Names program string spot.rounds d target → Holds program (own_place (spot ∷ string) p []) target)
+      Rest = (qs : List ℕ) → ((i p : ℕ) (d : Expr) → slice_get qs i ≡ Some p → slice_get es i ≡ Some d → (target : Place) → MayPointTo program string spot.rounds d target → Holds program (own_place (spot ∷ string) p []) target)
           → (ws : List Value) → eval_all here es ≡ Some ws → BoundFine program strings B string spot qs ws
 
       same_list : (v : Value) (vs ws : List Value) → Some (v ∷ vs) ≡ Some ws → v ∷ vs ≡ ws
       same_list v vs ws q = cc
 
-      both_fine : (ps : List ℕ) → ((i p : ℕ) (d : Expr) → slice_get ps i ≡ Some p → slice_get (e ∷ es) i ≡ Some d → (target : Place) → Names program string spot.rounds d target → Holds program (own_place (spot ∷ string) p []) target)
-          → (v : Value) (vs : List Value) → OnAddress (N e) v → ((qs : List ℕ) → ((i p : ℕ) (d : Expr) → slice_get qs i ≡ Some p → slice_get es i ≡ Some d → (target : Place) → Names program string spot.rounds d target → Holds program (own_place (spot ∷ string) p []) target) → BoundFine program strings B string spot qs vs)
+      both_fine : (ps : List ℕ) → ((i p : ℕ) (d : Expr) → slice_get ps i ≡ Some p → slice_get (e ∷ es) i ≡ Some d → (target : Place) → MayPointTo program string spot.rounds d target → Holds program (own_place (spot ∷ string) p []) target)
+          → (v : Value) (vs : List Value) → OnAddress (N e) v → ((qs : List ℕ) → ((i p : ℕ) (d : Expr) → slice_get qs i ≡ Some p → slice_get es i ≡ Some d → (target : Place) → MayPointTo program string spot.rounds d target → Holds program (own_place (spot ∷ string) p []) target) → BoundFine program strings B string spot qs vs)
           → BoundFine program strings B string spot ps (v ∷ vs)
       both_fine [] h v vs n k = tt
       both_fine (p ∷ ps) h v vs n k = (on_map (N e) (Passed program strings B string spot p) (λ cell m. (m.0, h zero p e refl refl (place cell) m.1)) v n, k ps (λ i p d a b. h (suc i) p d a b))

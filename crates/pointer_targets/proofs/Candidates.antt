@@ -8,15 +8,18 @@ use Rattle.c_program.specs.Values.{Cell, Address, Location, location_of}
 use Rattle.c_program.specs.Control.{Control, Spot, Point, spot_in, string_of, rounds_of}
 use Rattle.c_program.specs.Evaluation.{root_of, eval, place_at}
 use Rattle.c_program.specs.State.{State, Running, Stand, Frame, top, frames_of, here}
+use Rattle.c_program.specs.Faults.{Sort, A_mutex, A_condition, A_key, A_thread}
 use Rattle.c_program.specs.Step.{Choice}
 use Rattle.c_program.specs.Runs.{IsGoodRun, state_after}
 use Rattle.c_program.specs.WellFormed.{IsWellFormed}
 use Rattle.c_program.specs.Paths.{IsPoint}
 use Rattle.c_program.proofs.Cells.{and_true, numbers_same}
 use Rattle.pointer_targets.specs.Places.{Place, place_of}
-use Rattle.pointer_targets.specs.PointsTo.{Names, IsOfType}
-use Rattle.pointer_targets.specs.Candidates.{MayMean, IsCandidate, IsExact}
-use Rattle.pointer_targets.specs.Laws.{EachAddressIsAllowed, EachKeyIsAllowed, EachResultIsAllowed, EachNameIsAllowed, LeadsToObject, WhatIsLedToIsACandidate, ExactIsLedTo, MayNameIsSound, IsExactIsSound}
+use Rattle.pointer_targets.specs.PointsTo.{MayPointTo, IsOfType}
+use Rattle.pointer_targets.specs.Candidates.{MayMean, MayName, IsCandidateOfType, IsExact, NamesAreSound}
+use Rattle.pointer_targets.specs.Laws.{EachAddressIsAllowed, EachKeyIsAllowed, EachResultIsAllowed, EachNameIsAllowed, WhatIsLedToIsACandidate, ExactIsLedTo, WhatIsLedToIsNamed, WhatIsExactIsLedTo}
+use Rattle.pointer_targets.specs.LibraryObjects.{LeadsToObject, type_of_sort}
+use Rattle.pointer_targets.specs.Names.{Names}
 use Rattle.pointer_targets.proofs.Values.{IsBelow, OnAddress, OnOption, below_here, location_same}
 use Rattle.pointer_targets.proofs.Evaluated.{Named, evaluated}
 use Rattle.pointer_targets.proofs.Fine.{Points, KeptFine}
@@ -24,6 +27,15 @@ use Rattle.pointer_targets.proofs.Changes.{KeyFine, StandFine}
 use Rattle.pointer_targets.proofs.Asked.{place_is_named, place_typed}
 use Rattle.pointer_targets.proofs.Holding.{Holding, below_top, here_string, here_point, here_constant, here_memory}
 use Rattle.pointer_targets.proofs.Opening.{holding_run}
+
+no_sizes : (t own : CType) → t.sizes ≡ [] → same_type t own ≡ true → own.sizes ≡ []
+no_sizes t own n e = sym (numbers_same t.sizes own.sizes (and_true (same_base t.base own.base && same_pointers t.is_const own.is_const t.pointers own.pointers) (same_numbers t.sizes own.sizes) e).1) ∙ n
+
+no_array : (sort : Sort) → (type_of_sort sort).sizes ≡ []
+no_array A_mutex = refl
+no_array A_condition = refl
+no_array A_key = refl
+no_array A_thread = refl
 
 -- ---- what is held
 
@@ -60,7 +72,7 @@ module _ (program : Program) (well : IsWellFormed program) where
         (here_constant program well run good holding t control frames inside stands) (here_memory program well run good holding t control frames inside stands) e
 
     abbrev At : Cell → List Spot → Expr → Type 0
-    At cell string e = Names program string (rounds_of control) e (place_of state.string cell)
+    At cell string e = MayPointTo program string (rounds_of control) e (place_of state.string cell)
 
     pub name_is : (e : Expr) (to : Cell) → eval (here program state t) e ≡ Some (Address to) → At to (string_of control ++ (state.thread t).origin) e
     name_is e to q = subst (λ string. At to string e) own_string
@@ -84,6 +96,15 @@ module _ (program : Program) (well : IsWellFormed program) where
 
   -- ---- candidates
 
+  -- a candidate of a type that is no array may be named
+  may_be_named : (type : CType) (point : Point) (argument : ℕ) (location : Location) → type.sizes ≡ [] → IsCandidateOfType program type point argument location → MayName program point argument location
+  may_be_named type point argument location n c = record {
+    place = c.place;
+    means = c.means;
+    no_array = record { own = c.of_type.0; has_type = c.of_type.1.0; no_sizes = no_sizes type c.of_type.0 n c.of_type.1.1 };
+    at = c.at;
+  }
+
   module _ (type : CType) (run : List Choice) (good : IsGoodRun program run) (t : ℕ) (point : Point) (argument : ℕ) (object : Cell) (lead : LeadsToObject program type run t point argument object) where
     abbrev P : Place
     P = place_of (state_after program run).string object
@@ -98,7 +119,7 @@ module _ (program : Program) (well : IsWellFormed program) where
       both.1,
     )
       where
-        both : Names program (string_of lead.control ++ ((state_after program run).thread t).origin) (rounds_of lead.control) lead.expression P × IsOfType program type P
+        both : MayPointTo program (string_of lead.control ++ ((state_after program run).thread t).origin) (rounds_of lead.control) lead.expression P × IsOfType program type P
         both = led_is run good t lead.control lead.frames None lead.stands lead.expression type object lead.leads
 
     pub is_point_there : IsPoint program ((state_after program run).thread t).origin point
@@ -107,15 +128,13 @@ module _ (program : Program) (well : IsWellFormed program) where
         (here_string program well run good (holding_run program well run good) t lead.control lead.frames None lead.stands)
         (here_point program well run good (holding_run program well run good) t lead.control lead.frames None lead.stands lead.move lead.offers))
 
-    pub candidate : (location : Location) → location_of program object ≡ Some location → IsCandidate program type point argument location
+    pub candidate : (location : Location) → location_of program object ≡ Some location → IsCandidateOfType program type point argument location
     candidate location e = record { place = P; means = found.0; of_type = found.1; at = location_same program (state_after program run).string object ∙ e }
 
     -- an object of a type without sizes is no array
     pub exactly : (location : Location) → type.sizes ≡ [] → IsExact program point argument location → location_of program object ≡ Some location
-    exactly location n x = sym (location_same program (state_after program run).string object) ∙ x.alone P found.0 (record { own = found.1.0; has_type = found.1.1.0; no_sizes = no_sizes found.1.0 found.1.1.1 })
-      where
-        no_sizes : (own : CType) → same_type type own ≡ true → own.sizes ≡ []
-        no_sizes own e = sym (numbers_same type.sizes own.sizes (and_true (same_base type.base own.base && same_pointers type.is_const own.is_const type.pointers own.pointers) (same_numbers type.sizes own.sizes) e).1) ∙ n
+    exactly location n x = sym (location_same program (state_after program run).string object)
+        ∙ x.alone P found.0 (record { own = found.1.0; has_type = found.1.1.0; no_sizes = no_sizes type found.1.0 n found.1.1.1 })
 
   pub candidates_allowed : WhatIsLedToIsACandidate program
   candidates_allowed type run t point argument object location good lead e = candidate type run good t point argument object lead location e
@@ -123,10 +142,13 @@ module _ (program : Program) (well : IsWellFormed program) where
   pub exact_is_led : ExactIsLedTo program
   exact_is_led type run t point argument object location good n lead x = exactly type run good t point argument object lead location n x
 
-  pub may_name_sound : MayNameIsSound program
-  may_name_sound type answers tells run t point argument object location good lead e =
-      tells.may_name ((state_after program run).thread t).origin point argument location (is_point_there type run good t point argument object lead) (candidate type run good t point argument object lead location e)
+  -- ---- by tests
 
-  pub is_exact_sound : IsExactIsSound program
-  is_exact_sound type answers tells n run t point argument object location good lead e = exactly type run good t point argument object lead location n
-      (tells.is_exact ((state_after program run).thread t).origin point argument location (is_point_there type run good t point argument object lead) e)
+  pub named : WhatIsLedToIsNamed program
+  named names sound run t point sort argument object location good lead e = sound.may_name ((state_after program run).thread t).origin point argument location
+      (is_point_there (type_of_sort sort) run good t point argument object lead)
+      (may_be_named (type_of_sort sort) point argument location (no_array sort) (candidate (type_of_sort sort) run good t point argument object lead location e))
+
+  pub exactly_named : WhatIsExactIsLedTo program
+  exactly_named names sound run t point sort argument object location good lead e = exactly (type_of_sort sort) run good t point argument object lead location (no_array sort)
+      (sound.is_exact ((state_after program run).thread t).origin point argument location (is_point_there (type_of_sort sort) run good t point argument object lead) e)

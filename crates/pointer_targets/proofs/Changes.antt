@@ -18,7 +18,7 @@ use Rattle.c_program.specs.Laws.{CallsHave}
 use Rattle.c_program.specs.Paths.{IsPoint}
 use Rattle.c_program.proofs.Cells.{cell_same}
 use Rattle.pointer_targets.specs.Places.{Of_string, own_place, below, site_of, place_of}
-use Rattle.pointer_targets.specs.PointsTo.{Names, Holds, Keeps, Results, returned, ended}
+use Rattle.pointer_targets.specs.PointsTo.{MayPointTo, Holds, Keeps, Results, returned, ended}
 use Rattle.pointer_targets.proofs.Values.{IsBelow, OnAddress, OnOption, on_map, option_on_map}
 use Rattle.pointer_targets.proofs.Fine.{Points, Copied, StoreFine, EachFine, KeptFine, ResultFine, IntoFine, Given, Passed, BoundFine, RequestFine, Leaving, TurnFine, AskFine}
 
@@ -192,7 +192,7 @@ module _ (program : Program) (strings later : ℕ → List Spot) (called next : 
             let s : string ≡ c.call ∷ strings caller.number = ap (λ l. strings (top l)) (sym q) ∙ c.above in
             returned thread (strings caller.number) c.call spot c.function c.arguments local m.1.0 (place_of strings cell)
             (record { point = subst (λ x. IsPoint program thread (record { string = x; spot = spot })) s point; is = m.1.1.0 })
-            c.is_call (subst (λ x. Names program x spot.rounds m.1.0 (place_of strings cell)) s m.1.1.1)
+            c.is_call (subst (λ x. MayPointTo program x spot.rounds m.1.0 (place_of strings cell)) s m.1.1.1)
 
     module _ (state : State) (own : ℕ) (is_called : state.called ≡ called)
         (keys : (key : Cell) → KeyFine program strings (IsBelow called) key (state.key key)) (results : (t : ℕ) → StandFine program strings (IsBelow called) (state.thread t).stand)
@@ -269,7 +269,7 @@ module _ (program : Program) (strings later : ℕ → List Spot) (called next : 
         m.0,
         ended thread spot m.1.0 (place_of strings cell)
             (record { point = subst (λ x. IsPoint program thread (record { string = x; spot = spot })) q point; is = m.1.1.0 })
-            (subst (λ x. Names program x spot.rounds m.1.0 (place_of strings cell)) q m.1.1.1),
+            (subst (λ x. MayPointTo program x spot.rounds m.1.0 (place_of strings cell)) q m.1.1.1),
       )) result p
 
       after_fine : (fs : List Frame) (cs : List Spot) → fs ≡ frames → CallsHave strings thread cs fs → (turn : Turn) (sync : Sync) → TurnFine program strings (IsBelow called) string spot turn → SyncFine program strings (IsBelow called) sync → SyncFine program strings (IsBelow called) (sync_after fs turn sync)

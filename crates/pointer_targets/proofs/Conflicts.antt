@@ -205,12 +205,9 @@ and_either true b c d e f g = last c (g e)
 
 pub conflicts_told : (program : Program) → IsWellFormed program → ConflictsAreTold program
 conflicts_told program well run good choice move effect step longer fine next onward change last cell location l d c = record {
-  writes = a.does_write;
-  atomically = a.atomically;
-  also_writes = b.does_write;
-  also_atomically = b.atomically;
-  one_writes = or_either _ _ a.does_write b.does_write c.2 a.writes_so b.writes_so;
-  not_both = and_either _ _ a.atomically b.atomically c.3 a.plain_so b.plain_so;
+  manner = record { writes = a.does_write; is_atomic = a.atomically };
+  other_manner = record { writes = b.does_write; is_atomic = b.atomically };
+  conflict = (or_either _ _ a.does_write b.does_write c.2 a.writes_so b.writes_so, and_either _ _ a.atomically b.atomically c.3 a.plain_so b.plain_so);
   first = a.touch;
   second = b.touch;
 }

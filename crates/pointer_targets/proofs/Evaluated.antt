@@ -13,7 +13,7 @@ use Rattle.c_program.specs.Counters.{is_constant_in, constant_in}
 use Rattle.c_program.specs.WellFormed.{is_initial, is_constant, is_constant_step, are_constant_steps}
 use Rattle.c_program.proofs.Cells.{and_true}
 use Rattle.pointer_targets.specs.Places.{place_in, place_of}
-use Rattle.pointer_targets.specs.PointsTo.{Names, object, local, along as led_along, alone, first, second, has_links, Holds}
+use Rattle.pointer_targets.specs.PointsTo.{MayPointTo, object, local, along as led_along, alone, first, second, has_links, Holds}
 use Rattle.pointer_targets.proofs.Values.{OnOption, option_on_map, on_then, on_two, number_on, numbers_on, choose_on, same_on, all_on, any_on, number_chained, place_here, IndexKnown, IndexesKnown, along_on}
 
 -- ---- chains
@@ -33,19 +33,19 @@ module _ (program : Program) (strings : ℕ → List Spot) (B : Root → Type 0)
 
   -- the call of the address was made, and the expression may name it
   abbrev pub Named : Expr → Cell → Type 0
-  Named e cell = B cell.root × Names program string rounds e (place_of strings cell)
+  Named e cell = B cell.root × MayPointTo program string rounds e (place_of strings cell)
 
   own_place_is : (n : ℕ) (path : List ℕ) → place_of strings (record { root = root_of here n; path = path }) ≡ place_in program string n path
   own_place_is n path = place_here strings here n path ∙ ap (λ p. place_in p string n path) own
 
   object_named : (n : ℕ) → Named (Object n) (whole here n)
-  object_named n = (there n, subst (Names program string rounds (Object n)) (sym (own_place_is n [])) (object string rounds n))
+  object_named n = (there n, subst (MayPointTo program string rounds (Object n)) (sym (own_place_is n [])) (object string rounds n))
 
   path_named : (x : _) (e : Expr) (y : _) (steps : Row_of-Step _) → OnOption (Named e) (eval here e) → IndexesKnown program strings B rounds here own steps
       → OnOption (Named (Path' x (more_of-Expr e end_of-Expr) y steps)) (eval here (Path' x (more_of-Expr e end_of-Expr) y steps))
   path_named x e y steps p k = option_on_map _ (Named (Path' x (more_of-Expr e end_of-Expr) y steps))
       (λ cell q. (q.0, led_along string rounds x e y steps q.1.0 (place_of strings cell) q.1.1.0 q.1.1.1)) _
-      (along_on program strings B rounds here own (Names program string rounds e) (eval here e) steps k p)
+      (along_on program strings B rounds here own (MayPointTo program string rounds e) (eval here e) steps k p)
 
   -- ---- initial values
 

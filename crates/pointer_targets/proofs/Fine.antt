@@ -10,7 +10,7 @@ use Rattle.c_program.specs.Values.{Root, Cell, Value}
 use Rattle.c_program.specs.Control.{Spot}
 use Rattle.c_program.specs.Requests.{Store, Sets, Copies, Request, Creates, Joins, Sets_key, Gets_key, Turn, Goes, Enters, Leaves, Exits, Ask}
 use Rattle.pointer_targets.specs.Places.{Place, own_place, below, place_of}
-use Rattle.pointer_targets.specs.PointsTo.{Stands, Names, Holds, Keeps, Results}
+use Rattle.pointer_targets.specs.PointsTo.{Stands, MayPointTo, Holds, Keeps, Results}
 use Rattle.pointer_targets.proofs.Values.{OnAddress, OnOption}
 
 module _ (program : Program) (strings : ℕ → List Spot) (B : Root → Type 0) where
@@ -59,7 +59,7 @@ module _ (program : Program) (strings : ℕ → List Spot) (B : Root → Type 0)
     -- it is the argument of a creation
     abbrev pub Handed : Cell → Type 0
     Handed cell = (o : Expr) × ((argument : Expr) × ((function : ℕ) × ((into : Option Local) × (Stands program string spot (act.Library (lib.ThreadCreate o function argument) into)
-        × Names program string spot.rounds argument (place_of strings cell)))))
+        × MayPointTo program string spot.rounds argument (place_of strings cell)))))
 
     abbrev pub RequestFine : Option Local → Turn → Request → Type 0
     RequestFine into turn (Creates object function v result) = (turn ≡ Goes) × BoundFine (parameters_at program function) (v ∷ []) × OnAddress Handed v
@@ -74,7 +74,7 @@ module _ (program : Program) (strings : ℕ → List Spot) (B : Root → Type 0)
     CallsInto local = (function : ℕ) × ((arguments : List Expr) × (act_at program spot.action ≡ act.Call function arguments (Some local)))
 
     abbrev pub Leaving : Cell → Type 0
-    Leaving cell = B cell.root × ((e : Expr) × ((act_at program spot.action ≡ act.Return (Some e)) × Names program string spot.rounds e (place_of strings cell)))
+    Leaving cell = B cell.root × ((e : Expr) × ((act_at program spot.action ≡ act.Return (Some e)) × MayPointTo program string spot.rounds e (place_of strings cell)))
 
     abbrev pub TurnFine : Turn → Type 0
     TurnFine Goes = Unit {0}

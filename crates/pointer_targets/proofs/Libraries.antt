@@ -12,7 +12,8 @@ use Rattle.c_program.specs.Types.{same_bools, same_numbers, same_base, same_poin
 use Rattle.c_program.specs.Values.{Root, Static, Of_thread, Of_frame, Cell, Location, location_of, step_in, steps_of}
 use Rattle.c_program.specs.WellFormed.{IsWellFormed, structures_marked, member_holds, is_same_bool, member_is_before}
 use Rattle.c_program.proofs.Cells.{and_true}
-use Rattle.pointer_targets.specs.Laws.{OneCellIsMeant, is_of}
+use Rattle.pointer_targets.specs.LibraryObjects.{is_of}
+use Rattle.pointer_targets.specs.Laws.{OneCellIsMeant}
 
 pub same_some : {A : Type 0} (a b : A) → Some a ≡ Some b → a ≡ b
 same_some a b e = cc

@@ -11,7 +11,7 @@ use Rattle.c_program.specs.Values.{Cell, Location, location_of, type_of_cell, is
 use Rattle.c_program.specs.Control.{Spot}
 use Rattle.c_program.proofs.Cells.{and_true, numbers_same, root_same}
 use Rattle.pointer_targets.specs.Places.{place_of, type_of_place}
-use Rattle.pointer_targets.specs.PointsTo.{Names, IsOfType}
+use Rattle.pointer_targets.specs.PointsTo.{MayPointTo, IsOfType}
 use Rattle.pointer_targets.specs.Candidates.{LiesAt}
 use Rattle.pointer_targets.specs.Accesses.{DataAccess, IsData, MayAccess, at_scalar, at_part}
 use Rattle.pointer_targets.proofs.Values.{object_same, location_same}
@@ -78,7 +78,7 @@ module _ (program : Program) where
       pub outer : List ℕ
       pub root : base.root ≡ cell.root
       pub path : outer ++ base.path ≡ cell.path
-      pub names : Names program string spot.rounds access.address (place_of strings base)
+      pub names : MayPointTo program string spot.rounds access.address (place_of strings base)
       pub typed : IsOfType program access.c_type (place_of strings base)
       pub whole : is_scalar access.c_type ≡ true → outer ≡ []
 

@@ -25,7 +25,7 @@ use Rattle.c_program.proofs.Build.{nowhere, static_object, function, block3}
 use Rattle.c_program.proofs.Line.{acting, structures}
 use Rattle.pointer_targets.specs.Places.{Of_all, Of_string, Place, place_in, object_in}
 use Rattle.pointer_targets.specs.PointsTo
-use Rattle.pointer_targets.specs.PointsTo.{Stands, Names, Holds, Keeps, Results}
+use Rattle.pointer_targets.specs.PointsTo.{Stands, MayPointTo, Holds, Keeps, Results}
 use Rattle.pointer_targets.specs.Candidates.{IsArgument, LiesAt, MayName, IsExact}
 use Rattle.pointer_targets.specs.Escapes.{is_static_site, into_static, into_key, into_thread, by_return, by_exit, NoneEscapes}
 
@@ -131,7 +131,7 @@ act_one (suc (suc (suc n))) = tt
 which : (n : ℕ) (a : Act) → act_at locker n ≡ a → IsOne a
 which n a e = subst IsOne e (act_one n)
 
-object_m : (string : List Spot) (rounds : List Round) (e : Expr) (t : Place) → Names locker string rounds e t → e ≡ Object 0 → t ≡ m
+object_m : (string : List Spot) (rounds : List Round) (e : Expr) (t : Place) → MayPointTo locker string rounds e t → e ≡ Object 0 → t ≡ m
 object_m string rounds e t (PointsTo.object s r n) q = go n (same n q)
   where
     same : (n : ℕ) → Object n ≡ Object 0 → n ≡ 0
@@ -175,7 +175,7 @@ all_m h t (PointsTo.returned thread string call spot f arguments into e u r c n)
 all_m h t (PointsTo.joined string spot o e into x u s n r) = absurd (which spot.action _ s.is)
 all_m h t (PointsTo.got string spot k into key u s n d) = absurd (which spot.action _ s.is)
 
-local_m : (string : List Spot) (rounds : List Round) (e : Expr) (t : Place) → Names locker string rounds e t → e ≡ Local 2 [] → t ≡ m
+local_m : (string : List Spot) (rounds : List Round) (e : Expr) (t : Place) → MayPointTo locker string rounds e t → e ≡ Local 2 [] → t ≡ m
 local_m string rounds e t (PointsTo.object s r n) q = absurd (cc)
 local_m string rounds e t (PointsTo.local s r n path u h) q = all_m _ t h
 local_m string rounds e t (PointsTo.along s r x d y steps from to n l) q = absurd (cc)
@@ -205,7 +205,7 @@ exact = record {
 
 -- ---- nothing escapes
 
-no_constant : (string : List Spot) (rounds : List Round) (e : Expr) (t : Place) → Names locker string rounds e t → e ≡ Constant (pos 0) → ⊥
+no_constant : (string : List Spot) (rounds : List Round) (e : Expr) (t : Place) → MayPointTo locker string rounds e t → e ≡ Constant (pos 0) → ⊥
 no_constant string rounds e t (PointsTo.object s r n) q = absurd (cc)
 no_constant string rounds e t (PointsTo.local s r n path u h) q = absurd (cc)
 no_constant string rounds e t (PointsTo.along s r x d y steps from to n l) q = absurd (cc)

@@ -17,7 +17,7 @@ use Rattle.c_program.specs.Runs.{state_after}
 use Rattle.c_program.specs.WellFormed.{IsWellFormed}
 use Rattle.pointer_targets.specs.Places.{Site, Of_all, Of_each_thread, Of_string, Place, site_at, place_of, type_of_place, Goes, itself, to_member, to_element, forward_none, forward_to, back_none, back_to, Leads}
 use Rattle.pointer_targets.specs.PointsTo
-use Rattle.pointer_targets.specs.PointsTo.{Names, Holds, Keeps, Results}
+use Rattle.pointer_targets.specs.PointsTo.{MayPointTo, Holds, Keeps, Results}
 use Rattle.pointer_targets.specs.Laws.{NoLocalLibrary, holds_locally, StaticIsLedTo}
 use Rattle.pointer_targets.proofs.Libraries.{same_some, any_at, whole_holds, same_type_holds}
 use Rattle.pointer_targets.proofs.Candidates.{found}
@@ -52,7 +52,7 @@ module _ (program : Program) where
   F place = Fits program place.site
 
   mutual
-    pub named_fits : (string : List Spot) (rounds : List Round) (e : Expr) (target : Place) → Names program string rounds e target → F target
+    pub named_fits : (string : List Spot) (rounds : List Round) (e : Expr) (target : Place) → MayPointTo program string rounds e target → F target
     named_fits string rounds e target (PointsTo.object s r n) = object_fits string _ n refl
     named_fits string rounds e target (PointsTo.local s r n path t h) = held_fits _ _ h
     named_fits string rounds e target (PointsTo.along s r x d y steps from to n l) = subst (Fits program) (leads_in program rounds from target steps l) (named_fits _ _ _ _ n)

@@ -18,7 +18,7 @@ use Rattle.c_program.specs.Values.{Location}
 use Rattle.c_program.specs.Control.{Spot}
 use Rattle.c_program.specs.Requests.{timespec}
 use Rattle.pointer_targets.specs.Places.{Place, type_of_place, below}
-use Rattle.pointer_targets.specs.PointsTo.{Names, IsOfType}
+use Rattle.pointer_targets.specs.PointsTo.{MayPointTo, IsOfType}
 use Rattle.pointer_targets.specs.Candidates.{LiesAt}
 
 -- an access through an address, at a type
@@ -88,9 +88,9 @@ pub record IsData (program : Program) (place : Place) : Type 0 where
 
 -- a scalar is accessed wherever its address may lead, at whatever type; a structure at its very type, with all its parts
 pub data MayAccess (program : Program) (string : List Spot) (spot : Spot) (access : DataAccess) : Location → Type 0 where
-  at_scalar : (place : Place) (location : Location) → is_scalar access.c_type ≡ true → Names program string spot.rounds access.address place
+  at_scalar : (place : Place) (location : Location) → is_scalar access.c_type ≡ true → MayPointTo program string spot.rounds access.address place
       → IsData program place → LiesAt program place location → MayAccess program string spot access location
-  at_part : (place : Place) (path : List ℕ) (location : Location) → is_scalar access.c_type ≡ false → IsOfType program access.c_type place → Names program string spot.rounds access.address place
+  at_part : (place : Place) (path : List ℕ) (location : Location) → is_scalar access.c_type ≡ false → IsOfType program access.c_type place → MayPointTo program string spot.rounds access.address place
       → IsData program (below path place) → LiesAt program (below path place) location → MayAccess program string spot access location
 
 -- an action, in a call string and its rounds, reads or writes the region

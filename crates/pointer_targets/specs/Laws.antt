@@ -1,35 +1,35 @@
 -- "Control and pointers sound", of pointers: what a run holds and names, points-to allows.
-use Rattle.std.specs.Prelude.{◌≡◌, ℕ, Bool, true, false, not, ◌&&◌, ◌||◌, List, [], ◌++◌, option_map, unwrap_or, Option, Some, None, slice_get}
+use Rattle.std.specs.Prelude.{◌≡◌, ℕ, Bool, true, false, not, ◌&&◌, List, [], ◌++◌, Option, Some, None, slice_get}
 use Rattle.c_program.specs.declared.types.CType.{CType}
 use Rattle.c_program.specs.declared.expression.Expr.{Expr}
-use Rattle.c_program.specs.declared.action.Local.{Local}
-use Rattle.c_program.specs.declared.action.LibraryCall.{LibraryCall}
-use Rattle.c_program.specs.declared.action.Act.TheVariants.{Library}
 use Rattle.std.specs.List.{list_any}
 use Rattle.c_program.specs.declared.program.Object.{Object}
 use Rattle.c_program.specs.declared.program.Storage.{Storage}
 use Rattle.c_program.specs.declared.program.Storage.TheVariants as storage
 use Rattle.c_program.specs.declared.program.Program.{Program}
-use Rattle.c_program.specs.Types.{same_type, holds_library}
+use Rattle.c_program.specs.Types.{holds_library}
 use Rattle.c_program.specs.Syntax.{act_at}
-use Rattle.c_program.specs.Values.{Root, Static, Of_thread, Of_frame, Cell, Location, Address, location_of, type_of_cell, is_static, is_data_cell}
+use Rattle.c_program.specs.Values.{Root, Static, Of_thread, Of_frame, Cell, Location, Address, location_of, is_static, is_data_cell}
 use Rattle.c_program.specs.Control.{Control, Move, Point, string_of, rounds_of, Spot, spot_in}
-use Rattle.c_program.specs.Evaluation.{eval, place_at}
+use Rattle.c_program.specs.Evaluation.{eval}
 use Rattle.c_program.specs.State.{State, Running, Ended, Frame, Live, frames_of, here}
 use Rattle.c_program.specs.Effects.{Effect, is_among}
 use Rattle.c_program.specs.Requests.{Load, Store, Sets}
 use Rattle.c_program.specs.Happens.{load_reads, store_writes}
+use Rattle.c_program.specs.Faults.{Sort}
 use Rattle.c_program.specs.Laws.{IsStepBy}
 use Rattle.c_program.specs.Breaks.{Conflict}
 use Rattle.c_program.specs.Step.{Choice}
 use Rattle.c_program.specs.Runs.{IsGoodRun, state_after}
-use Rattle.c_program.specs.Counters.{arguments_of}
-use Rattle.c_program.specs.Paths.{Offers, stands_at}
+use Rattle.c_program.specs.Paths.{stands_at}
 use Rattle.pointer_targets.specs.Places.{place_of}
-use Rattle.pointer_targets.specs.PointsTo.{Names, Holds, Keeps, Results}
+use Rattle.pointer_targets.specs.PointsTo.{MayPointTo, Holds, Keeps, Results}
+use Rattle.pointer_targets.specs.LibraryObjects.{LeadsToObject, type_of_sort, is_of}
+use Rattle.pointer_targets.specs.Manners.{Manner, AreInConflict, MayAccessAt}
+use Rattle.pointer_targets.specs.Names.{Names}
 use Rattle.pointer_targets.specs.Accesses.{MayTouch}
 use Rattle.pointer_targets.specs.Escapes.{NoneEscapes}
-use Rattle.pointer_targets.specs.Candidates.{IsCandidate, IsExact, Answers, Tells}
+use Rattle.pointer_targets.specs.Candidates.{IsCandidateOfType, IsExact, NamesAreSound}
 
 -- ---- what is held
 
@@ -52,43 +52,28 @@ abbrev pub EachNameIsAllowed : Program → Type 0
 EachNameIsAllowed program = (run : List Choice) → IsGoodRun program run → (thread : ℕ) (control : Control) (frames : List Frame) (inside : Option Cell)
     → ((state_after program run).thread thread).stand ≡ Running control frames inside
     → (e : Expr) (to : Cell) → eval (here program (state_after program run) thread) e ≡ Some (Address to)
-    → Names program (string_of control ++ ((state_after program run).thread thread).origin) (rounds_of control) e (place_of (state_after program run).string to)
+    → MayPointTo program (string_of control ++ ((state_after program run).thread thread).origin) (rounds_of control) e (place_of (state_after program run).string to)
 
--- a thread stands before a library call whose argument of a number leads to an object of a type; whether the step has a
--- meaning plays no part
-pub record LeadsToObject (program : Program) (t : CType) (run : List Choice) (thread : ℕ) (point : Point) (argument : ℕ) (object : Cell) : Type 0 where
-  pub control : Control
-  pub frames : List Frame
-  pub move : Move
-  pub call : LibraryCall
-  pub into : Option Local
-  pub expression : Expr
-  pub stands : ((state_after program run).thread thread).stand ≡ Running control frames None
-  pub offers : Offers control move
-  pub here_is : stands_at ((state_after program run).thread thread).origin control move ≡ point
-  pub is_call : act_at program move.action ≡ Library call into
-  pub has : slice_get (arguments_of call) argument ≡ Some expression
-  pub leads : place_at (here program (state_after program run) thread) t expression ≡ Some object
-
+-- what an argument of a library call leads to is a candidate of its type, and where the argument is exact, it is that location
 abbrev pub WhatIsLedToIsACandidate : Program → Type 0
 WhatIsLedToIsACandidate program = (t : CType) (run : List Choice) (thread : ℕ) (point : Point) (argument : ℕ) (object : Cell) (location : Location) → IsGoodRun program run
-    → LeadsToObject program t run thread point argument object → location_of program object ≡ Some location → IsCandidate program t point argument location
+    → LeadsToObject program t run thread point argument object → location_of program object ≡ Some location → IsCandidateOfType program t point argument location
 
 abbrev pub ExactIsLedTo : Program → Type 0
 ExactIsLedTo program = (t : CType) (run : List Choice) (thread : ℕ) (point : Point) (argument : ℕ) (object : Cell) (location : Location) → IsGoodRun program run → t.sizes ≡ []
     → LeadsToObject program t run thread point argument object → IsExact program point argument location → location_of program object ≡ Some location
 
--- ---- by tests that tell of arguments of the type
+-- ---- by tests
 
-abbrev pub MayNameIsSound : Program → Type 0
-MayNameIsSound program = (t : CType) (answers : Answers) → Tells program t answers
-    → (run : List Choice) (thread : ℕ) (point : Point) (argument : ℕ) (object : Cell) (location : Location) → IsGoodRun program run
-    → LeadsToObject program t run thread point argument object → location_of program object ≡ Some location → answers.may_name point argument location ≡ true
+abbrev pub WhatIsLedToIsNamed : Program → Type 0
+WhatIsLedToIsNamed program = (names : Names) → NamesAreSound program names
+    → (run : List Choice) (thread : ℕ) (point : Point) (sort : Sort) (argument : ℕ) (object : Cell) (location : Location) → IsGoodRun program run
+    → LeadsToObject program (type_of_sort sort) run thread point argument object → location_of program object ≡ Some location → names.may_name point argument location ≡ true
 
-abbrev pub IsExactIsSound : Program → Type 0
-IsExactIsSound program = (t : CType) (answers : Answers) → Tells program t answers → t.sizes ≡ []
-    → (run : List Choice) (thread : ℕ) (point : Point) (argument : ℕ) (object : Cell) (location : Location) → IsGoodRun program run
-    → LeadsToObject program t run thread point argument object → answers.is_exact point argument location ≡ true → location_of program object ≡ Some location
+abbrev pub WhatIsExactIsLedTo : Program → Type 0
+WhatIsExactIsLedTo program = (names : Names) → NamesAreSound program names
+    → (run : List Choice) (thread : ℕ) (point : Point) (sort : Sort) (argument : ℕ) (object : Cell) (location : Location) → IsGoodRun program run
+    → LeadsToObject program (type_of_sort sort) run thread point argument object → names.is_exact point argument location ≡ true → location_of program object ≡ Some location
 
 -- ---- library objects are static, and each is a location of its own
 
@@ -108,9 +93,7 @@ StaticIsLedTo program = NoLocalLibrary program → (t : CType) → holds_library
     → (run : List Choice) (thread : ℕ) (point : Point) (argument : ℕ) (object : Cell) → IsGoodRun program run
     → LeadsToObject program t run thread point argument object → (location : Location) × (location_of program object ≡ Some location)
 
-abbrev pub is_of : Program → CType → Cell → Bool
-is_of program t cell = unwrap_or (option_map (same_type t) (type_of_cell program cell)) false
-
+-- each element of an array of library objects is a location of its own
 abbrev pub OneCellIsMeant : Program → Type 0
 OneCellIsMeant program = (t : CType) → holds_library program t ≡ true → (a b : Cell) (location : Location) → is_of program t a ≡ true → is_of program t b ≡ true
     → location_of program a ≡ Some location → location_of program b ≡ Some location → a ≡ b
@@ -154,21 +137,17 @@ EachWriteIsAllowed program = (run : List Choice) → IsGoodRun program run → (
     → (cell : Cell) (location : Location) → location_of program cell ≡ Some location → is_data_cell program cell ≡ true → (number : ℕ) (store : Store) → slice_get effect.stores number ≡ Some store → store_writes cell store ≡ true
     → MayTouch program (string_of step.control ++ ((state_after program run).thread choice.thread).origin) (spot_in step.control move.action) (act_at program move.action) true (stored_atomically store) location
 
--- two accesses of a region, one of them writing, and not both atomic
-pub record MayConflict (program : Program) (string other : List Spot) (spot next : Spot) (location : Location) : Type 0 where
-  pub writes : Bool
-  pub atomically : Bool
-  pub also_writes : Bool
-  pub also_atomically : Bool
-  pub one_writes : (writes || also_writes) ≡ true
-  pub not_both : (atomically && also_atomically) ≡ false
-  pub first : MayTouch program string spot (act_at program spot.action) writes atomically location
-  pub second : MayTouch program other next (act_at program next.action) also_writes also_atomically location
+-- the actions of two points may access the region, one of them writing, and not both atomic
+pub record MayConflict (program : Program) (point other : Point) (region : Location) : Type 0 where
+  pub manner : Manner
+  pub other_manner : Manner
+  pub conflict : AreInConflict manner other_manner
+  pub first : MayAccessAt program point region manner
+  pub second : MayAccessAt program other region other_manner
 
 -- two steps, of one run or of two of its beginnings, that conflict at a static data cell
 abbrev pub ConflictsAreTold : Program → Type 0
 ConflictsAreTold program = (run : List Choice) → IsGoodRun program run → (choice : Choice) (move : Move) (effect : Effect) (step : IsStepBy program (state_after program run) choice move effect)
     → (longer : List Choice) → IsGoodRun program longer → (next : Choice) (onward : Move) (change : Effect) (last : IsStepBy program (state_after program longer) next onward change)
     → (cell : Cell) (location : Location) → location_of program cell ≡ Some location → is_data_cell program cell ≡ true → Conflict effect change cell
-    → MayConflict program (string_of step.control ++ ((state_after program run).thread choice.thread).origin) (string_of last.control ++ ((state_after program longer).thread next.thread).origin)
-    (spot_in step.control move.action) (spot_in last.control onward.action) location
+    → MayConflict program (stands_at ((state_after program run).thread choice.thread).origin step.control move) (stands_at ((state_after program longer).thread next.thread).origin last.control onward) location

@@ -53,72 +53,72 @@ has_links (more_of-Link op t x row links) = true
 
 mutual
   -- the expression, in a call string and in the turns of the counted loops round it, may have the address of the place
-  pub data Names (program : Program) : List Spot → List Round → Expr → Place → Type 0 where
-    object : (string : List Spot) (rounds : List Round) (n : ℕ) → Names program string rounds (Object n) (place_in program string n [])
-    local : (string : List Spot) (rounds : List Round) (n : ℕ) (path : List ℕ) (target : Place) → Holds program (place_in program string n path) target → Names program string rounds (Local n path) target
-    along : (string : List Spot) (rounds : List Round) (x : _) (e : Expr) (y : _) (steps : Row_of-Step _) (from to : Place) → Names program string rounds e from → Leads program rounds from steps to
-        → Names program string rounds (Path' x (more_of-Expr e end_of-Expr) y steps) to
+  pub data MayPointTo (program : Program) : List Spot → List Round → Expr → Place → Type 0 where
+    object : (string : List Spot) (rounds : List Round) (n : ℕ) → MayPointTo program string rounds (Object n) (place_in program string n [])
+    local : (string : List Spot) (rounds : List Round) (n : ℕ) (path : List ℕ) (target : Place) → Holds program (place_in program string n path) target → MayPointTo program string rounds (Local n path) target
+    along : (string : List Spot) (rounds : List Round) (x : _) (e : Expr) (y : _) (steps : Row_of-Step _) (from to : Place) → MayPointTo program string rounds e from → Leads program rounds from steps to
+        → MayPointTo program string rounds (Path' x (more_of-Expr e end_of-Expr) y steps) to
     -- a chain without operators is its first operand
-    alone : (string : List Spot) (rounds : List Round) (x : _) (e : Expr) (y : _) (links : Row_of-Link _) (target : Place) → has_links links ≡ false → Names program string rounds e target
-        → Names program string rounds (Chain' x (more_of-Expr e end_of-Expr) y links) target
-    first : (string : List Spot) (rounds : List Round) (c a b : Expr) (target : Place) → Names program string rounds a target → Names program string rounds (Choose c a b) target
-    second : (string : List Spot) (rounds : List Round) (c a b : Expr) (target : Place) → Names program string rounds b target → Names program string rounds (Choose c a b) target
+    alone : (string : List Spot) (rounds : List Round) (x : _) (e : Expr) (y : _) (links : Row_of-Link _) (target : Place) → has_links links ≡ false → MayPointTo program string rounds e target
+        → MayPointTo program string rounds (Chain' x (more_of-Expr e end_of-Expr) y links) target
+    first : (string : List Spot) (rounds : List Round) (c a b : Expr) (target : Place) → MayPointTo program string rounds a target → MayPointTo program string rounds (Choose c a b) target
+    second : (string : List Spot) (rounds : List Round) (c a b : Expr) (target : Place) → MayPointTo program string rounds b target → MayPointTo program string rounds (Choose c a b) target
 
   -- the object at the first place may hold the address of the second
   pub data Holds (program : Program) : Place → Place → Type 0 where
     initial : (site : Site) (path : List ℕ) (i : ℕ) (part : Initial) (target : Place) → slice_get (initial_of program (object_in site)) i ≡ Some part
-        → SameSteps program (object_in site) path part.path → Names program [] [] part.value target → Holds program (record { site = site; path = path }) target
+        → SameSteps program (object_in site) path part.path → MayPointTo program [] [] part.value target → Holds program (record { site = site; path = path }) target
     -- assignments
     written : (string : List Spot) (spot : Spot) (e v : Expr) (t : CType) (holder target : Place) → Stands program string spot (act.Write e t v)
-        → Names program string spot.rounds e holder → Names program string spot.rounds v target → Holds program holder target
+        → MayPointTo program string spot.rounds e holder → MayPointTo program string spot.rounds v target → Holds program holder target
     assigned : (string : List Spot) (spot : Spot) (local : LocalOf) (e : Expr) (target : Place) → Stands program string spot (act.Assign local e)
-        → Names program string spot.rounds e target → Holds program (own_place string local.object local.path) target
+        → MayPointTo program string spot.rounds e target → Holds program (own_place string local.object local.path) target
     read : (string : List Spot) (spot : Spot) (e : Expr) (t : CType) (local : LocalOf) (from target : Place) → Stands program string spot (act.Read e t local) → is_scalar t ≡ true
-        → Names program string spot.rounds e from → Holds program from target → Holds program (own_place string local.object local.path) target
+        → MayPointTo program string spot.rounds e from → Holds program from target → Holds program (own_place string local.object local.path) target
     -- of a structure one for each member
     read_whole : (string : List Spot) (spot : Spot) (e : Expr) (t : CType) (local : LocalOf) (from target : Place) (path : List ℕ) → Stands program string spot (act.Read e t local) → is_scalar t ≡ false → IsOfType program t from
-        → Names program string spot.rounds e from → Holds program (below path from) target → Holds program (below path (place_in program string local.object local.path)) target
+        → MayPointTo program string spot.rounds e from → Holds program (below path from) target → Holds program (below path (place_in program string local.object local.path)) target
     copied : (string : List Spot) (spot : Spot) (e f : Expr) (t : CType) (to from target : Place) (path : List ℕ) → Stands program string spot (act.Copy e t f) → IsOfType program t to → IsOfType program t from
-        → Names program string spot.rounds e to → Names program string spot.rounds f from → Holds program (below path from) target → Holds program (below path to) target
+        → MayPointTo program string spot.rounds e to → MayPointTo program string spot.rounds f from → Holds program (below path from) target → Holds program (below path to) target
     filled : (string : List Spot) (spot : Spot) (n i : ℕ) (parts : List Part) (part : Part) (path : List ℕ) (target : Place) → Stands program string spot (act.Fill n parts)
         → slice_get parts i ≡ Some part → SameSteps program n path part.path → is_scalar part.c_type ≡ true
-        → Names program string spot.rounds part.value target → Holds program (place_in program string n path) target
+        → MayPointTo program string spot.rounds part.value target → Holds program (place_in program string n path) target
     filled_whole : (string : List Spot) (spot : Spot) (n i : ℕ) (parts : List Part) (part : Part) (inner path : List ℕ) (from target : Place) → Stands program string spot (act.Fill n parts)
         → slice_get parts i ≡ Some part → SameSteps program n path part.path → is_scalar part.c_type ≡ false → IsOfType program part.c_type from
-        → Names program string spot.rounds part.value from → Holds program (below inner from) target → Holds program (below inner (place_in program string n path)) target
+        → MayPointTo program string spot.rounds part.value from → Holds program (below inner from) target → Holds program (below inner (place_in program string n path)) target
     -- a structure that holds a library object is copied with its pointers
     taken : (string : List Spot) (spot : Spot) (e : Expr) (t : CType) (local : LocalOf) (from target : Place) (path : List ℕ) → Stands program string spot (act.Touch e t (touched.Read local)) → IsOfType program t from
-        → Names program string spot.rounds e from → Holds program (below path from) target → Holds program (below path (own_place string local.object local.path)) target
+        → MayPointTo program string spot.rounds e from → Holds program (below path from) target → Holds program (below path (own_place string local.object local.path)) target
     given : (string : List Spot) (spot : Spot) (e : Expr) (t : CType) (local : LocalOf) (to target : Place) (path : List ℕ) → Stands program string spot (act.Touch e t (touched.Write local)) → IsOfType program t to
-        → Names program string spot.rounds e to → Holds program (below path (own_place string local.object local.path)) target → Holds program (below path to) target
+        → MayPointTo program string spot.rounds e to → Holds program (below path (own_place string local.object local.path)) target → Holds program (below path to) target
     stored : (string : List Spot) (spot : Spot) (call : AtomicCall) (into : Option LocalOf) (holder target : Place) → Stands program string spot (act.Library (lib.Atomic call) into) → sets call.operation ≡ true
-        → Names program string spot.rounds call.object holder → Names program string spot.rounds call.operand target → Holds program holder target
+        → MayPointTo program string spot.rounds call.object holder → MayPointTo program string spot.rounds call.operand target → Holds program holder target
     loaded : (string : List Spot) (spot : Spot) (call : AtomicCall) (into : LocalOf) (from target : Place) → Stands program string spot (act.Library (lib.Atomic call) (Some into)) → call.operation ≡ atomic.Load
-        → Names program string spot.rounds call.object from → Holds program from target → Holds program (own_place string into.object into.path) target
+        → MayPointTo program string spot.rounds call.object from → Holds program from target → Holds program (own_place string into.object into.path) target
     -- parameters: of a call, and of the function of a created thread
     passed : (string : List Spot) (spot : Spot) (f i p : ℕ) (arguments : List Expr) (argument : Expr) (into : Option LocalOf) (target : Place) → Stands program string spot (act.Call f arguments into)
         → slice_get (parameters_at program f) i ≡ Some p → slice_get arguments i ≡ Some argument
-        → Names program string spot.rounds argument target → Holds program (own_place (spot ∷ string) p []) target
+        → MayPointTo program string spot.rounds argument target → Holds program (own_place (spot ∷ string) p []) target
     handed : (string : List Spot) (spot : Spot) (f p : ℕ) (o argument : Expr) (into : Option LocalOf) (target : Place) → Stands program string spot (act.Library (lib.ThreadCreate o f argument) into)
         → slice_get (parameters_at program f) 0 ≡ Some p
-        → Names program string spot.rounds argument target → Holds program (own_place (spot ∷ string) p []) target
+        → MayPointTo program string spot.rounds argument target → Holds program (own_place (spot ∷ string) p []) target
     -- results: of a call, of a thread at a join
     returned : (thread string : List Spot) (call spot : Spot) (f : ℕ) (arguments : List Expr) (into : LocalOf) (e : Expr) (target : Place) → Returns program thread (call ∷ string) spot e
         → act_at program call.action ≡ act.Call f arguments (Some into)
-        → Names program (call ∷ string) spot.rounds e target → Holds program (own_place string into.object into.path) target
+        → MayPointTo program (call ∷ string) spot.rounds e target → Holds program (own_place string into.object into.path) target
     joined : (string : List Spot) (spot : Spot) (o e : Expr) (into : Option LocalOf) (holder target : Place) → Stands program string spot (act.Library (lib.ThreadJoin o e) into)
-        → Names program string spot.rounds e holder → Results program target → Holds program holder target
+        → MayPointTo program string spot.rounds e holder → Results program target → Holds program holder target
     -- keys
     got : (string : List Spot) (spot : Spot) (k : Expr) (into : LocalOf) (key target : Place) → Stands program string spot (act.Library (lib.KeyGet k) (Some into))
-        → Names program string spot.rounds k key → Keeps program key target → Holds program (own_place string into.object into.path) target
+        → MayPointTo program string spot.rounds k key → Keeps program key target → Holds program (own_place string into.object into.path) target
 
   -- a key may have the address for some thread
   pub data Keeps (program : Program) : Place → Place → Type 0 where
     set : (string : List Spot) (spot : Spot) (k v : Expr) (into : Option LocalOf) (key target : Place) → Stands program string spot (act.Library (lib.KeySet k v) into)
-        → Names program string spot.rounds k key → Names program string spot.rounds v target → Keeps program key target
+        → MayPointTo program string spot.rounds k key → MayPointTo program string spot.rounds v target → Keeps program key target
 
   -- a thread may end with the address
   pub data Results (program : Program) : Place → Type 0 where
     exited : (string : List Spot) (spot : Spot) (e : Expr) (into : Option LocalOf) (target : Place) → Stands program string spot (act.Library (lib.ThreadExit e) into)
-        → Names program string spot.rounds e target → Results program target
-    ended : (thread : List Spot) (spot : Spot) (e : Expr) (target : Place) → Returns program thread thread spot e → Names program thread spot.rounds e target → Results program target
+        → MayPointTo program string spot.rounds e target → Results program target
+    ended : (thread : List Spot) (spot : Spot) (e : Expr) (target : Place) → Returns program thread thread spot e → MayPointTo program thread spot.rounds e target → Results program target

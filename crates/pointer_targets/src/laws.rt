@@ -1,6 +1,6 @@
 //! The laws of pointers, for proofs over the runs of a program.
 ghost use Rattle.c_program.specs.WellFormed.{IsWellFormed};
-ghost use Rattle.pointer_targets.specs.Laws.{EachAddressIsAllowed, EachKeyIsAllowed, EachResultIsAllowed, EachNameIsAllowed, WhatIsLedToIsACandidate, ExactIsLedTo, MayNameIsSound, IsExactIsSound, StaticIsLedTo, OneCellIsMeant, NoneIsReachedByOthers, StaticHoldsStatic, KeysHoldStatic, ResultsAreStatic, EachReadIsAllowed, EachWriteIsAllowed, ConflictsAreTold};
+ghost use Rattle.pointer_targets.specs.Laws.{EachAddressIsAllowed, EachKeyIsAllowed, EachResultIsAllowed, EachNameIsAllowed, WhatIsLedToIsACandidate, ExactIsLedTo, WhatIsLedToIsNamed, WhatIsExactIsLedTo, StaticIsLedTo, OneCellIsMeant, NoneIsReachedByOthers, StaticHoldsStatic, KeysHoldStatic, ResultsAreStatic, EachReadIsAllowed, EachWriteIsAllowed, ConflictsAreTold};
 
 use c_program::program::Program;
 
@@ -25,11 +25,11 @@ pub fn candidates(program: &Program)
     ensures exact { ExactIsLedTo program.now }
 {}
 
-/// The same by tests that tell what points-to allows.
-pub fn answers(program: &Program)
+/// The same by tests that miss no name and call nothing exact that is not.
+pub fn by_tests(program: &Program)
     requires { IsWellFormed program.now }
-    ensures may_name { MayNameIsSound program.now }
-    ensures exact { IsExactIsSound program.now }
+    ensures may_name { WhatIsLedToIsNamed program.now }
+    ensures exact { WhatIsExactIsLedTo program.now }
 {}
 
 /// Where no library object is local, each one that an argument leads to is static; and those of one location are one.

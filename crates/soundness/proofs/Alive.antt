@@ -9,10 +9,10 @@ use Rattle.c_program.specs.Values.{Location}
 use Rattle.c_program.specs.Control.{Control, Spot, Point}
 use Rattle.c_program.specs.Faults.{A_thread}
 use Rattle.path_simulation.specs.Tracks.{Comes, at_entry, by_move}
-use Rattle.mutex_ownership.specs.Names.{Names}
-use Rattle.thread_states.specs.Objects.{ObjectState, Is_unmade, Is_live, Is_joined, Is_detached, Is_dead, Doing, Begins, Joins_it, Detaches_it, Ends_it, doing_of, changed}
-use Rattle.thread_states.specs.States.{Mark, Follows_none, At, ObjectStep, follows_none, passes, moves, leaves, succeeds, fails, may_succeed, may_fail, elsewhere, Starts, states}
-use Rattle.thread_states.specs.ThreadStates.{IsThreadState, MayBe, along, made_outside}
+use Rattle.pointer_targets.specs.Names.{Names}
+use Rattle.static_facts.specs.ObjectStates.{ObjectState, Is_unmade, Is_live, Is_joined, Is_detached, Is_dead, Doing, Begins, Joins_it, Detaches_it, Ends_it, doing_of, changed}
+use Rattle.static_facts.specs.ObjectPaths.{Mark, Follows_none, At, ObjectStep, follows_none, passes, moves, leaves, succeeds, fails, may_succeed, may_fail, elsewhere, Starts, states}
+use Rattle.static_facts.specs.ThreadStates.{IsThreadState, MayBe, along, made_outside}
 
 abbrev IsAlive : Mark → Type 0
 IsAlive Follows_none = Unit {0}

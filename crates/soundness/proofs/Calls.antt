@@ -7,8 +7,8 @@ use Rattle.c_program.specs.declared.action.Act.{Act}
 use Rattle.c_program.specs.declared.action.Act.TheVariants as act
 use Rattle.c_program.specs.Faults.{Sort, A_mutex, A_condition, A_key, A_thread, How, Initialises, Uses, Ends_life, is_key}
 use Rattle.c_program.proofs.Members.{In, Each, mapped, in_mapped, each_in, to_contains, from_contains}
-use Rattle.thread_states.specs.Objects.{IsNoThread}
-use Rattle.thread_states.specs.ThreadStates.{is_creation as is_creation_of_threads}
+use Rattle.static_facts.specs.ObjectStates.{IsNoThread}
+use Rattle.static_facts.specs.ThreadStates.{is_creation as is_creation_of_threads}
 use Rattle.thread_states.specs.Findings.{releases_thread, ArgumentAccess, at_argument, accesses_in, IsInitialisation}
 use Rattle.guideline_findings.specs.Candidates.{is_creation, is_join, is_detachment, Taken, taken, objects_of}
 use Rattle.guideline_findings.specs.Lives.{IsUseOrEnd}

@@ -14,13 +14,13 @@ use Rattle.c_program.specs.Breaks.{Breaks}
 use Rattle.c_program.specs.WellFormed.{IsWellFormed}
 use Rattle.c_program.specs.Paths.{LeadsTo, initial as at_main, by_call, by_creation}
 use Rattle.c_program.proofs.Cells.{and_true}
-use Rattle.thread_states.specs.Order.{Ordered, in_initial}
-use Rattle.guideline_findings.specs.Facts.{Facts, AreOrdered}
+use Rattle.static_facts.specs.Order.{Ordered, in_initial}
+use Rattle.static_facts.specs.Facts.{Facts, AreOrdered}
 use Rattle.guideline_findings.specs.Candidates.{is_creation}
 use Rattle.guideline_findings.specs.Findings.{Subject, Kind, rule_of_sort, Found, race, before, second, made_outside, own, dependent, IsClean}
-use Rattle.guideline_findings.specs.Premises.{HasCleanText}
+use Rattle.guideline_silence.specs.Premises.{HasCleanText}
 use Rattle.soundness.specs.Texts.{IsOfText}
-use Rattle.soundness.specs.Analyses.{AreSound}
+use Rattle.static_facts.specs.Analyses.{AreSound}
 use Rattle.soundness.proofs.Whole.{silence}
 
 is_initial : List Spot → Bool

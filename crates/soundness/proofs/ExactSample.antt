@@ -25,20 +25,20 @@ use Rattle.c_program.proofs.Cells.{and_true}
 use Rattle.path_simulation.specs.Tracks.{Comes, at_entry, by_move}
 use Rattle.pointer_targets.specs.Places.{Of_all, Place, place_in}
 use Rattle.pointer_targets.specs.PointsTo
-use Rattle.pointer_targets.specs.PointsTo.{Names}
+use Rattle.pointer_targets.specs.PointsTo.{MayPointTo}
 use Rattle.pointer_targets.specs.Candidates.{MayName, LiesAt}
 use Rattle.pointer_targets.specs.Accesses.{DataAccess, writes_at, MayAccess, at_scalar, at_part, MayTouch}
-use Rattle.thread_states.specs.Objects.{ObjectState, Is_unmade as Unmade, doing_of}
-use Rattle.thread_states.specs.States.{Mark, Follows_none, At, ObjectStep, follows_none, passes, moves, leaves, succeeds, fails, may_succeed, may_fail, elsewhere, states, MayBeAlong}
-use Rattle.thread_states.specs.ThreadStates.{is_creation, MayBe, along, made_outside}
-use Rattle.thread_states.specs.Lives.{MayLive, in_initial, in_created}
-use Rattle.thread_states.specs.Order.{Ordered, in_initial as in_main}
-use Rattle.guideline_findings.specs.Facts.{Facts, Manner, ThreadState, No_thread, A_thread_runs, Was_joined, Was_detached, LifeState, Is_unmade, Is_alive, Is_dead}
+use Rattle.static_facts.specs.ObjectStates.{ObjectState, Is_unmade as Unmade, doing_of}
+use Rattle.static_facts.specs.ObjectPaths.{Mark, Follows_none, At, ObjectStep, follows_none, passes, moves, leaves, succeeds, fails, may_succeed, may_fail, elsewhere, states, MayBeAlong}
+use Rattle.static_facts.specs.ThreadStates.{is_creation, MayBe, along, made_outside}
+use Rattle.static_facts.specs.Lives.{MayLive, in_initial, in_created}
+use Rattle.static_facts.specs.Order.{Ordered, in_initial as in_main}
+use Rattle.static_facts.specs.Facts.{Facts, Manner, ThreadState, No_thread, A_thread_runs, Was_joined, Was_detached, LifeState, Is_unmade, Is_alive, Is_dead}
 use Rattle.guideline_findings.specs.Text.{declares_object}
-use Rattle.guideline_findings.specs.Laws.{IsSilent}
+use Rattle.guideline_silence.specs.Laws.{IsSilent}
 use Rattle.soundness.specs.Texts.{HasTouch, IsOfText}
-use Rattle.soundness.specs.Tellings.{Tells}
-use Rattle.soundness.specs.Analyses.{MayAccessAt, state_of_thread, state_of_life, AreExact}
+use Rattle.pointer_targets.specs.Tellings.{Tells}
+use Rattle.static_facts.specs.Analyses.{MayAccessAt, state_of_thread, state_of_life, AreExact}
 use Rattle.soundness.proofs.Halves.{sound}
 use Rattle.soundness.proofs.Whole.{silence}
 
@@ -221,7 +221,7 @@ is_it : (location : Location) → is_x location ≡ true → x ≡ location
 is_it location e = let b = and_true (location.object == 0) (is_whole location.steps) e in
     sym (ap (λ (n : ℕ). record { object = n; steps = location.steps }) (eqb-true location.object 0 b.0) ∙ ap (λ (l : List (Option ℕ)). record { object = 0; steps = l }) (whole location.steps b.1))
 
-object_x : (string : List Spot) (rounds : List Round) (e : Expr) (t : Place) → Names writer string rounds e t → e ≡ Object 0 → t ≡ x_place
+object_x : (string : List Spot) (rounds : List Round) (e : Expr) (t : Place) → MayPointTo writer string rounds e t → e ≡ Object 0 → t ≡ x_place
 object_x string rounds e t (PointsTo.object s r n) q = go n (same n q)
   where
     same : (n : ℕ) → Object n ≡ Object 0 → n ≡ 0

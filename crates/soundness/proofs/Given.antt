@@ -4,7 +4,7 @@ use Rattle.c_program.specs.declared.program.Program.{Program}
 use Rattle.c_program.specs.Values.{Cell, Location, location_of}
 use Rattle.c_program.specs.Faults.{Sort, A_mutex, A_condition, A_key, A_thread}
 use Rattle.c_program.specs.WellFormed.{IsWellFormed}
-use Rattle.thread_states.specs.Objects.{is_of_sort as is_of_threads}
+use Rattle.static_facts.specs.ObjectStates.{is_of_sort as is_of_threads}
 use Rattle.mutex_ownership.specs.Premises.{Premises as OfOwners}
 use Rattle.thread_states.specs.Premises.{Premises as OfThreads, ObjectsAreStatic}
 use Rattle.thread_states.proofs.Owners.{of_mutexes}
@@ -14,11 +14,11 @@ use Rattle.thread_states.proofs.SilenceOfLives.{silent_14, silent_20}
 use Rattle.thread_states.proofs.SilenceOfReleases.{silent_11}
 use Rattle.thread_states.proofs.Stopping.{moment_point}
 use Rattle.thread_states.proofs.Ordering.{in_order}
-use Rattle.guideline_findings.specs.Facts.{Facts}
-use Rattle.guideline_findings.specs.Premises.{HasCleanText, Premises as OfFindings}
-use Rattle.guideline_findings.proofs.OneCell.{apart}
+use Rattle.static_facts.specs.Facts.{Facts}
+use Rattle.guideline_silence.specs.Premises.{HasCleanText, Premises as OfFindings}
+use Rattle.guideline_silence.proofs.OneCell.{apart}
 use Rattle.soundness.specs.Texts.{IsOfText}
-use Rattle.soundness.specs.Analyses.{AreSound}
+use Rattle.static_facts.specs.Analyses.{AreSound}
 use Rattle.soundness.proofs.Naming.{from_threads, named, exactly, static}
 use Rattle.soundness.proofs.Touched.{may_access}
 use Rattle.soundness.proofs.Unfound.{none_outside, none_repeated, no_release, no_life_14, no_life_20, no_end}

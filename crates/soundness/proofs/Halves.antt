@@ -1,7 +1,7 @@
 -- Exact answers are sound.
 use Rattle.c_program.specs.declared.program.Program.{Program}
-use Rattle.guideline_findings.specs.Facts.{Facts}
-use Rattle.soundness.specs.Analyses.{AreExact, AreSound}
+use Rattle.static_facts.specs.Facts.{Facts}
+use Rattle.static_facts.specs.Analyses.{AreExact, AreSound}
 
 pub sound : (program : Program) (facts : Facts) → AreExact program facts → AreSound program facts
 sound program facts exact = record {

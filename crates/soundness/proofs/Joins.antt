@@ -15,18 +15,18 @@ use Rattle.c_program.specs.Paths.{Offers, stands_at}
 use Rattle.c_program.specs.Laws.{NamesAt, IsRequestBy}
 use Rattle.c_program.proofs.Asking.{by_a_move}
 use Rattle.thread_states.specs.Findings.{releases_thread}
-use Rattle.thread_states.specs.Objects.{type_of_sort}
+use Rattle.static_facts.specs.ObjectStates.{type_of_sort}
 use Rattle.thread_states.proofs.Asking.{Leads}
 use Rattle.thread_states.proofs.Simulating.{place_typed}
 use Rattle.thread_states.proofs.SilenceOfLives.{created_thread}
 use Rattle.thread_states.proofs.SilenceOfReleases.{join_call, detach_call}
-use Rattle.guideline_findings.specs.Facts.{Facts}
+use Rattle.static_facts.specs.Facts.{Facts}
 use Rattle.guideline_findings.specs.Findings.{IsClean, own, joined_outside}
-use Rattle.guideline_findings.specs.Premises.{LeadsToObject}
-use Rattle.guideline_findings.proofs.Firsts.{clean_text}
-use Rattle.guideline_findings.proofs.Reaching.{reachable}
+use Rattle.guideline_silence.specs.Premises.{LeadsToObject}
+use Rattle.guideline_silence.proofs.Firsts.{clean_text}
+use Rattle.guideline_silence.proofs.Reaching.{reachable}
 use Rattle.soundness.specs.Texts.{IsOfText}
-use Rattle.soundness.specs.Analyses.{AreSound}
+use Rattle.static_facts.specs.Analyses.{AreSound}
 use Rattle.soundness.specs.Laws.{is_release, OnlyMainReleases}
 use Rattle.soundness.proofs.Naming.{named, static}
 use Rattle.soundness.proofs.Calls.{releases}

@@ -7,11 +7,11 @@ use Rattle.c_program.specs.Faults.{A_mutex, A_condition, A_key, A_thread}
 use Rattle.c_program.specs.WellFormed.{IsWellFormed}
 use Rattle.thread_states.proofs.SilenceOfLives.{live_possible}
 use Rattle.thread_states.proofs.SilenceOfEnds.{dead_possible}
-use Rattle.guideline_findings.specs.Facts.{Facts}
+use Rattle.static_facts.specs.Facts.{Facts}
 use Rattle.guideline_findings.specs.Findings.{IsClean}
-use Rattle.guideline_findings.proofs.Firsts.{clean_text}
+use Rattle.guideline_silence.proofs.Firsts.{clean_text}
 use Rattle.soundness.specs.Texts.{IsOfText}
-use Rattle.soundness.specs.Analyses.{AreSound}
+use Rattle.static_facts.specs.Analyses.{AreSound}
 use Rattle.soundness.specs.Laws.{LiveWhereClean, DeadWhereClean}
 use Rattle.soundness.proofs.Unfound.{no_life_14, no_life_20, no_end}
 use Rattle.soundness.proofs.Given.{of_threads, are_static}

@@ -12,18 +12,18 @@ use Rattle.c_program.specs.Step.{Choice}
 use Rattle.c_program.specs.Runs.{IsGoodRun, state_after}
 use Rattle.c_program.specs.WellFormed.{IsWellFormed}
 use Rattle.c_program.proofs.Cells.{and_true, numbers_same}
-use Rattle.mutex_ownership.specs.Names.{MayName, IsExact}
+use Rattle.pointer_targets.specs.Names.{MayName, IsExact}
 use Rattle.pointer_targets.specs.Candidates.{IsCandidate, MayName as PointsMayName, Answers, Tells}
 use Rattle.pointer_targets.specs.Laws.{LeadsToObject as PointsLead}
 use Rattle.pointer_targets.proofs.Candidates.{may_name_sound, is_exact_sound}
 use Rattle.pointer_targets.proofs.Sites.{static_led}
-use Rattle.thread_states.specs.Objects.{type_of_sort as type_of_threads}
+use Rattle.static_facts.specs.ObjectStates.{type_of_sort as type_of_threads}
 use Rattle.thread_states.specs.Premises.{LeadsToObject as ThreadsLead}
 use Rattle.guideline_findings.specs.Candidates.{type_of_sort}
-use Rattle.guideline_findings.specs.Facts.{Facts}
-use Rattle.guideline_findings.specs.Premises.{LeadsToObject, HasCleanText}
+use Rattle.static_facts.specs.Facts.{Facts}
+use Rattle.guideline_silence.specs.Premises.{LeadsToObject, HasCleanText}
 use Rattle.soundness.specs.Texts.{IsOfText}
-use Rattle.soundness.specs.Analyses.{AreSound}
+use Rattle.static_facts.specs.Analyses.{AreSound}
 use Rattle.soundness.proofs.Objects.{no_local_library}
 
 -- ---- library types

@@ -17,9 +17,9 @@ use Rattle.c_program.proofs.Cells.{and_true}
 use Rattle.pointer_targets.specs.Accesses.{MayTouch}
 use Rattle.pointer_targets.specs.Laws.{stored_atomically}
 use Rattle.pointer_targets.proofs.Accessed.{reads_allowed, writes_allowed}
-use Rattle.guideline_findings.specs.Facts.{Facts, Manner, MayAccess}
-use Rattle.guideline_findings.specs.Premises.{reads_so, writes_so, accesses_in}
-use Rattle.soundness.specs.Analyses.{AreSound}
+use Rattle.static_facts.specs.Facts.{Facts, Manner, MayAccess}
+use Rattle.guideline_silence.specs.Premises.{reads_so, writes_so, accesses_in}
+use Rattle.static_facts.specs.Analyses.{AreSound}
 use Rattle.soundness.proofs.Points.{standing_point}
 use Rattle.soundness.proofs.Objects.{found_one}
 

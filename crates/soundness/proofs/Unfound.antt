@@ -8,18 +8,18 @@ use Rattle.c_program.specs.Control.{Spot, Point}
 use Rattle.c_program.specs.Faults.{Sort, A_mutex, A_condition, A_key, A_thread, How, Initialises, Ends_life}
 use Rattle.c_program.specs.WellFormed.{IsWellFormed}
 use Rattle.c_program.specs.Paths.{IsPoint}
-use Rattle.thread_states.specs.Objects.{Is_unmade as Unmade, Is_live, Is_joined, Is_detached, Is_dead as Dead, IsNoThread}
-use Rattle.thread_states.specs.ThreadStates.{MayBe}
-use Rattle.thread_states.specs.Lives.{MayLive}
-use Rattle.thread_states.specs.Order.{IsSettled}
+use Rattle.static_facts.specs.ObjectStates.{Is_unmade as Unmade, Is_live, Is_joined, Is_detached, Is_dead as Dead, IsNoThread}
+use Rattle.static_facts.specs.ThreadStates.{MayBe}
+use Rattle.static_facts.specs.Lives.{MayLive}
+use Rattle.static_facts.specs.Order.{IsSettled}
 use Rattle.thread_states.specs.Findings.{IsReachable as ThreadsReach, IsCandidate, CreatesOutside, CreatesRepeatedly, ReleasesThread, ReleasedAgain, ReleasedOutside, AccessesObject, UsedBefore, BegunAgain, BegunOutside, UsedDead, IsSettledThread, EndedBusy, EndedOutside}
 use Rattle.thread_states.specs.Laws.{HasNoLifeFinding, HasNoEndFinding, HasNoReleaseFinding}
-use Rattle.guideline_findings.specs.Facts.{Facts, ThreadMayBe, LifeMayBe, A_thread_runs, Was_joined, Was_detached, Is_unmade, Is_alive, Is_dead}
+use Rattle.static_facts.specs.Facts.{Facts, ThreadMayBe, LifeMayBe, A_thread_runs, Was_joined, Was_detached, Is_unmade, Is_alive, Is_dead}
 use Rattle.guideline_findings.specs.Candidates.{IsReachable, IsCandidateOf}
 use Rattle.guideline_findings.specs.Threads.{Releases}
 use Rattle.guideline_findings.specs.Lives.{Accesses, MayRunOf}
 use Rattle.guideline_findings.specs.Findings.{IsClean, own, creation_outside, creation_repeated, joined_again, joined_outside, before, second, made_outside, dead, busy, destroyed_outside}
-use Rattle.soundness.specs.Analyses.{IsPlainThread, AreSound}
+use Rattle.static_facts.specs.Analyses.{IsPlainThread, AreSound}
 use Rattle.soundness.proofs.Points.{reached_point}
 use Rattle.soundness.proofs.Calls.{creates, releases, use_or_end, takes, no_thread, has_life, of_14, of_20}
 use Rattle.soundness.proofs.Alive.{never_dead}

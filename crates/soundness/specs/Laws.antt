@@ -13,9 +13,9 @@ use Rattle.c_program.specs.Runs.{IsGoodRun, state_after}
 use Rattle.c_program.specs.Breaks.{request_by}
 use Rattle.c_program.specs.Paths.{Offers}
 use Rattle.c_program.specs.Tracks.{life_of}
-use Rattle.thread_states.specs.Objects.{IsNoThread, Is_live, Is_dead}
+use Rattle.static_facts.specs.ObjectStates.{IsNoThread, Is_live, Is_dead}
 use Rattle.thread_states.specs.Laws.{IsObjectAt, LivesHere}
-use Rattle.guideline_findings.specs.Facts.{Facts}
+use Rattle.static_facts.specs.Facts.{Facts}
 use Rattle.guideline_findings.specs.Findings.{rule_of_sort, IsClean}
 
 -- where Rule 22.14 (of a key: 22.20) has no finding, an object that the initial thread finds live may be live there

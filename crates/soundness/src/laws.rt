@@ -7,10 +7,10 @@ ghost use Rattle.mutex_ownership.specs.Laws.{EachDepthIsPossible, HeldIsOrdered,
 ghost use Rattle.pointer_targets.specs.Escapes.{NoneEscapes};
 ghost use Rattle.pointer_targets.specs.Laws.{EachAddressIsAllowed, EachKeyIsAllowed, EachNameIsAllowed, NoneIsReachedByOthers};
 ghost use Rattle.thread_states.specs.Laws.{OrderedHappenInOrder, ThreadStatesArePossible, UnmadeIsPossible};
-ghost use Rattle.guideline_findings.specs.Facts.{Facts};
-ghost use Rattle.guideline_findings.specs.Laws.{EachLinkIsAnEdge, EachWaitingCycleIsOfEdges, IsSilent};
+ghost use Rattle.static_facts.specs.Facts.{Facts};
+ghost use Rattle.guideline_silence.specs.Laws.{EachLinkIsAnEdge, EachWaitingCycleIsOfEdges, IsSilent};
 ghost use Rattle.soundness.specs.Texts.{IsOfText};
-ghost use Rattle.soundness.specs.Analyses.{AreExact, AreSound};
+ghost use Rattle.static_facts.specs.Analyses.{AreExact, AreSound};
 ghost use Rattle.soundness.specs.Laws.{DeadWhereClean, LiveWhereClean, OnlyMainReleases};
 
 use c_program::program::Program;

@@ -15,10 +15,10 @@ use Rattle.c_program.specs.WellFormed.{IsWellFormed}
 use Rattle.c_program.proofs.Asks.{EachAsk, from_each}
 use Rattle.c_program.proofs.Cells.{cell_same}
 use Rattle.c_program.proofs.Named.{named}
-use Rattle.mutex_ownership.specs.Names.{Names}
+use Rattle.pointer_targets.specs.Names.{Names}
 use Rattle.mutex_ownership.proofs.Moments.{IsMoment, at_longer, GoodLast, good_last}
 use Rattle.mutex_ownership.proofs.MutexAsks.{RetakesBy, retakes_by}
-use Rattle.thread_states.specs.Objects.{IsNoThread, is_of_sort}
+use Rattle.static_facts.specs.ObjectStates.{IsNoThread, is_of_sort}
 use Rattle.thread_states.specs.Premises.{Premises, ObjectsAreStatic}
 use Rattle.thread_states.proofs.Accessing.{IsNamed, IsNamedAccess, found_access, named_accesses, typed_accesses, both_each}
 use Rattle.thread_states.proofs.Positions.{last_of}

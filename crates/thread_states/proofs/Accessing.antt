@@ -15,7 +15,7 @@ use Rattle.c_program.specs.Requests.{Request, Creates, Joins, Detaches, Inits, L
 use Rattle.c_program.specs.Faults.{Sort, A_mutex, A_condition, A_key, A_thread, How, Initialises, Uses, Ends_life, Access, accesses_of}
 use Rattle.c_program.specs.Laws.{Names}
 use Rattle.thread_states.specs.Findings.{at_argument, accesses_in}
-use Rattle.thread_states.specs.Objects.{IsNoThread, is_of_sort, type_of_sort}
+use Rattle.static_facts.specs.ObjectStates.{IsNoThread, is_of_sort, type_of_sort}
 use Rattle.thread_states.proofs.Asking.{Leads}
 use Rattle.thread_states.proofs.Simulating.{place_typed}
 use Rattle.c_program.specs.Counters.{arguments_of}

@@ -13,7 +13,7 @@ use Rattle.c_program.proofs.Stays.{origins}
 use Rattle.path_simulation.specs.Simulates.{LastStep}
 use Rattle.mutex_ownership.proofs.Later.{lt_differs, thread_made, made_grows}
 use Rattle.mutex_ownership.proofs.Moments.{step_of, moment_is, at_within, at_longer, GoodLast, good_last}
-use Rattle.thread_states.specs.Order.{thread_of}
+use Rattle.static_facts.specs.Order.{thread_of}
 use Rattle.thread_states.specs.Laws.{origin_of}
 use Rattle.thread_states.proofs.Positions.{split, last_of, place, from_prefix}
 

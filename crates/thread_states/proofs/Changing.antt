@@ -15,7 +15,7 @@ use Rattle.c_program.specs.Tracks.{life_number, life_of, Change, Kept, Started, 
 use Rattle.c_program.specs.WellFormed.{IsWellFormed}
 use Rattle.path_simulation.specs.Simulates.{LastStep}
 use Rattle.mutex_ownership.proofs.Remembering.{sync_is}
-use Rattle.thread_states.specs.Objects.{IsNoThread, Doing, Begins as Begins_one, Joins_it, Detaches_it, Ends_it}
+use Rattle.static_facts.specs.ObjectStates.{IsNoThread, Doing, Begins as Begins_one, Joins_it, Detaches_it, Ends_it}
 use Rattle.thread_states.specs.Seen.{when, use_by, use_with}
 use Rattle.c_program.specs.Control.{Move}
 

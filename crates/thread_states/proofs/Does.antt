@@ -11,7 +11,7 @@ use Rattle.c_program.specs.Runs.{state_after, outcome_of}
 use Rattle.c_program.specs.Laws.{IsStepBy}
 use Rattle.c_program.proofs.Logic.{no_or}
 use Rattle.path_simulation.specs.Simulates.{LastStep}
-use Rattle.thread_states.specs.Objects.{changed_by}
+use Rattle.static_facts.specs.ObjectStates.{changed_by}
 use Rattle.thread_states.specs.Seen.{use_with, seen, seen_after}
 
 -- a step that is by an ask is the outcome of its choice

@@ -17,7 +17,7 @@ use Rattle.path_simulation.proofs.Simulated.{last_step}
 use Rattle.mutex_ownership.proofs.Later.{lt_differs, made_grows}
 use Rattle.mutex_ownership.proofs.MutexAsks.{cell_equal}
 use Rattle.mutex_ownership.proofs.Remembering.{sync_is}
-use Rattle.thread_states.specs.Objects.{Is_live, Doing, Begins, Joins_it, Detaches_it, changed_by}
+use Rattle.static_facts.specs.ObjectStates.{Is_live, Doing, Begins, Joins_it, Detaches_it, changed_by}
 use Rattle.thread_states.specs.Seen.{mark_use, use_by, use_with, seen}
 use Rattle.thread_states.specs.Laws.{state_of_mark, state_held, state_of_object}
 use Rattle.thread_states.proofs.Does.{seen_own, seen_other}

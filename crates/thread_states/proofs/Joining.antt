@@ -7,7 +7,7 @@ use Rattle.c_program.specs.Step.{Choice}
 use Rattle.c_program.specs.Runs.{IsGoodRun, Moment, moment_at}
 use Rattle.path_simulation.specs.Simulates.{LastStep}
 use Rattle.mutex_ownership.proofs.Moments.{step_of, at_longer, GoodLast, good_last}
-use Rattle.thread_states.specs.Objects.{ObjectState, Is_unmade, Is_live, Is_joined, Is_detached, Is_dead, Doing, Begins, Joins_it, Detaches_it, Ends_it, changed_by, if_live}
+use Rattle.static_facts.specs.ObjectStates.{ObjectState, Is_unmade, Is_live, Is_joined, Is_detached, Is_dead, Doing, Begins, Joins_it, Detaches_it, Ends_it, changed_by, if_live}
 use Rattle.thread_states.specs.Seen.{use_with, seen}
 use Rattle.thread_states.proofs.Positions.{last_of, at_cases}
 use Rattle.thread_states.proofs.Does.{seen_own, seen_other}

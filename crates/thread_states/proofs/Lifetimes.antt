@@ -13,13 +13,13 @@ use Rattle.c_program.specs.Paths.{Offers, stands_at}
 use Rattle.c_program.specs.Tracks.{life_of, Change, Kept, Started, Ended, life_after}
 use Rattle.c_program.proofs.Counters.{sound_run}
 use Rattle.path_simulation.specs.Simulates.{LastStep, origin_in}
-use Rattle.mutex_ownership.specs.Names.{Names}
+use Rattle.pointer_targets.specs.Names.{Names}
 use Rattle.mutex_ownership.proofs.Moments.{IsMoment, step_of, moment_is, at_within, GoodLast, good_last}
-use Rattle.thread_states.specs.Objects.{IsNoThread, ObjectState, Is_unmade, Is_live, Is_dead, Doing, Begins, Joins_it, Detaches_it, Ends_it, changed_by}
+use Rattle.static_facts.specs.ObjectStates.{IsNoThread, ObjectState, Is_unmade, Is_live, Is_dead, Doing, Begins, Joins_it, Detaches_it, Ends_it, changed_by}
 use Rattle.thread_states.specs.Premises.{Premises}
 use Rattle.thread_states.specs.Seen.{use_with, seen}
-use Rattle.thread_states.specs.Order.{thread_of}
-use Rattle.thread_states.specs.Lives.{MayLive, in_initial, in_created}
+use Rattle.static_facts.specs.Order.{thread_of}
+use Rattle.static_facts.specs.Lives.{MayLive, in_initial, in_created}
 use Rattle.thread_states.specs.Laws.{IsObjectAt, origin_of}
 use Rattle.thread_states.proofs.Positions.{split, last_of, place, lasting}
 use Rattle.thread_states.proofs.Does.{seen_own, seen_other}
@@ -27,7 +27,7 @@ use Rattle.thread_states.proofs.Births.{Birth, birth, initial_origin}
 use Rattle.thread_states.proofs.Stopping.{point_is, moment_point}
 use Rattle.thread_states.proofs.Ordering.{what_is_seen}
 use Rattle.thread_states.proofs.Changing.{IsLife, change_by, life_opens, life_step, is_life}
-use Rattle.thread_states.specs.States.{MayBeAlong}
+use Rattle.static_facts.specs.ObjectPaths.{MayBeAlong}
 
 -- no step of another thread does this with the object
 abbrev pub IsAlone : Program → Sort → Cell → Doing → Type 0

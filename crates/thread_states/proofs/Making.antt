@@ -28,10 +28,10 @@ use Rattle.path_simulation.specs.Simulates.{LastStep, origin_in}
 use Rattle.mutex_ownership.proofs.MutexAsks.{RetakesBy, retakes_by, cell_equal}
 use Rattle.mutex_ownership.proofs.Moments.{at_longer, GoodLast, good_last}
 use Rattle.mutex_ownership.proofs.Remembering.{sync_is}
-use Rattle.thread_states.specs.Objects.{Begins, Joins_it}
+use Rattle.static_facts.specs.ObjectStates.{Begins, Joins_it}
 use Rattle.thread_states.specs.Premises.{LeadsToObject}
 use Rattle.thread_states.specs.Seen.{when, use_by, use_with}
-use Rattle.thread_states.specs.ThreadStates.{is_creation}
+use Rattle.static_facts.specs.ThreadStates.{is_creation}
 use Rattle.thread_states.proofs.Asking.{Leads}
 use Rattle.thread_states.proofs.Positions.{last_of}
 

@@ -16,15 +16,15 @@ use Rattle.c_program.proofs.Counters.{sound_run}
 use Rattle.c_program.proofs.Stays.{others}
 use Rattle.path_simulation.specs.Tracks.{IsPossible, Comes}
 use Rattle.path_simulation.specs.Simulates.{Follows}
-use Rattle.mutex_ownership.specs.Names.{Names, IsExact}
+use Rattle.pointer_targets.specs.Names.{Names, IsExact}
 use Rattle.mutex_ownership.proofs.Moments.{IsMoment, step_of, moment_is, at_within, GoodLast, good_last}
-use Rattle.thread_states.specs.Objects.{ObjectState, is_of_sort, type_of_sort}
+use Rattle.static_facts.specs.ObjectStates.{ObjectState, is_of_sort, type_of_sort}
 use Rattle.thread_states.specs.Premises.{Premises, LeadsToObject}
-use Rattle.thread_states.specs.States.{Mark, Follows_none, At, states, MayBeAlong}
+use Rattle.static_facts.specs.ObjectPaths.{Mark, Follows_none, At, states, MayBeAlong}
 use Rattle.thread_states.specs.Seen.{seen}
 use Rattle.thread_states.specs.Following.{Agrees}
-use Rattle.thread_states.specs.ThreadStates.{IsCreationPoint, along}
-use Rattle.thread_states.specs.Order.{IsPlain, thread_of, IsSettled, Ordered, in_initial, first_initial, second_initial, in_one, apart}
+use Rattle.static_facts.specs.ThreadStates.{IsCreationPoint, along}
+use Rattle.static_facts.specs.Order.{IsPlain, thread_of, IsSettled, Ordered, in_initial, first_initial, second_initial, in_one, apart}
 use Rattle.thread_states.specs.Laws.{WhatIsSeenIsPossible, origin_of, OrderedHappenInOrder, OrderedEitherWay}
 use Rattle.thread_states.proofs.Simulating.{followed, place_typed}
 use Rattle.thread_states.proofs.Positions.{split, same_moment, place, from_prefix, to_prefix, lasting}

@@ -5,7 +5,7 @@ use Rattle.c_program.specs.Values.{Cell}
 use Rattle.c_program.specs.Control.{Point}
 use Rattle.c_program.specs.Faults.{A_mutex}
 use Rattle.c_program.specs.Step.{Choice}
-use Rattle.mutex_ownership.specs.Names.{Names}
+use Rattle.pointer_targets.specs.Names.{Names}
 use Rattle.mutex_ownership.specs.Premises.{LeadsToMutex, Premises as OfMutexes, MutexesAreStatic}
 use Rattle.thread_states.specs.Premises.{LeadsToObject, Premises, ObjectsAreStatic}
 

@@ -12,7 +12,7 @@ use Rattle.c_program.specs.Requests.{Request, Creates, Joins, Detaches, Inits, T
 use Rattle.c_program.specs.Faults.{Sort, A_mutex, A_condition, A_key, A_thread}
 use Rattle.c_program.specs.Effects.{Sync, Suspends, Finishes, sync_of, sync_after, if_done, marks}
 use Rattle.c_program.specs.Laws.{Names}
-use Rattle.thread_states.specs.Objects.{doing_of}
+use Rattle.static_facts.specs.ObjectStates.{doing_of}
 use Rattle.thread_states.specs.Seen.{use_by}
 
 abbrev pub IsQuiet : Sort → Sync → Type 0

@@ -24,7 +24,7 @@ use Rattle.c_program.proofs.Far.{local_cell_of}
 use Rattle.c_program.proofs.Onward.{Kind, kind_of, Goes_on, left_by, left_is}
 use Rattle.path_simulation.proofs.Plain.{string_left}
 use Rattle.path_simulation.specs.Simulates.{LastStep, GoesOn, origin_in}
-use Rattle.mutex_ownership.specs.Outcomes.{Remembered, Test, kept_behind, forgets, follows_outcome, remembered_by, is_int_local, test_of, is_tested_side, decided, is_side}
+use Rattle.static_facts.specs.Outcomes.{Remembered, Test, kept_behind, forgets, follows_outcome, remembered_by, is_int_local, test_of, is_tested_side, decided, is_side}
 use Rattle.mutex_ownership.specs.Owning.{HasFrame, HasOutcome, OutcomeAt, OutcomeIn}
 use Rattle.mutex_ownership.proofs.Tests.{test_decides}
 use Rattle.mutex_ownership.proofs.Later.{own_later, own_origin}

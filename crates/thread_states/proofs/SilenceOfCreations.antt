@@ -10,7 +10,7 @@ use Rattle.c_program.specs.Runs.{IsGoodRun, Moment, moment_at}
 use Rattle.c_program.specs.Breaks.{creates, point_of}
 use Rattle.c_program.specs.WellFormed.{IsWellFormed}
 use Rattle.mutex_ownership.proofs.Moments.{step_of, moment_is, last_by, at_within, at_longer}
-use Rattle.thread_states.specs.ThreadStates.{is_creation}
+use Rattle.static_facts.specs.ThreadStates.{is_creation}
 use Rattle.thread_states.specs.Findings.{CreatesOutside, CreatesRepeatedly, IsReachable}
 use Rattle.thread_states.specs.Laws.{origin_of, SilentOn5_3}
 use Rattle.thread_states.proofs.Births.{initial_moves, initial_moment}

@@ -21,12 +21,12 @@ use Rattle.c_program.proofs.Asking.{by_a_move}
 use Rattle.c_program.proofs.Cells.{and_true}
 use Rattle.c_program.proofs.Logic.{not_true}
 use Rattle.path_simulation.specs.Simulates.{origin_in}
-use Rattle.mutex_ownership.specs.Names.{Names}
+use Rattle.pointer_targets.specs.Names.{Names}
 use Rattle.mutex_ownership.proofs.Moments.{IsMoment, step_of, moment_is}
-use Rattle.thread_states.specs.Objects.{IsNoThread, Is_dead, Ends_it}
+use Rattle.static_facts.specs.ObjectStates.{IsNoThread, Is_dead, Ends_it}
 use Rattle.thread_states.specs.Premises.{Premises, ObjectsAreStatic}
-use Rattle.thread_states.specs.Order.{thread_of}
-use Rattle.thread_states.specs.Lives.{MayLive, in_created}
+use Rattle.static_facts.specs.Order.{thread_of}
+use Rattle.static_facts.specs.Lives.{MayLive, in_created}
 use Rattle.thread_states.specs.Findings.{AccessesObject, IsInitialisation, IsSettledThread, EndedOutside, Nowhere}
 use Rattle.thread_states.specs.Laws.{HasNoEndFinding, SilentOn22_15, DeadIsPossible, origin_of}
 use Rattle.thread_states.proofs.Accessing.{IsNamed, IsNamedAccess, EachAccess, found_access, named_accesses, both_each}

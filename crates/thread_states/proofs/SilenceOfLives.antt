@@ -23,13 +23,13 @@ use Rattle.c_program.proofs.Asks.{EachAsk, from_each}
 use Rattle.c_program.proofs.Cells.{and_true, cell_same}
 use Rattle.c_program.proofs.Named.{named}
 use Rattle.path_simulation.specs.Simulates.{LastStep, origin_in}
-use Rattle.mutex_ownership.specs.Names.{Names}
+use Rattle.pointer_targets.specs.Names.{Names}
 use Rattle.mutex_ownership.proofs.MutexAsks.{RetakesBy, retakes_by}
 use Rattle.mutex_ownership.proofs.Remembering.{sync_is}
-use Rattle.thread_states.specs.Objects.{IsNoThread, Is_live, Doing, Begins, type_of_sort}
+use Rattle.static_facts.specs.ObjectStates.{IsNoThread, Is_live, Doing, Begins, type_of_sort}
 use Rattle.thread_states.specs.Premises.{Premises, ObjectsAreStatic, LeadsToObject}
 use Rattle.thread_states.specs.Seen.{use_with}
-use Rattle.thread_states.specs.Lives.{MayLive}
+use Rattle.static_facts.specs.Lives.{MayLive}
 use Rattle.thread_states.specs.Findings.{AccessesObject, IsInitialisation, BegunOutside, Nowhere}
 use Rattle.thread_states.specs.Laws.{IsObjectAt, HasNoLifeFinding, SilentOn22_14, SilentOn22_20, UnmadeIsPossible, LiveIsPossible}
 use Rattle.thread_states.proofs.Accessing.{IsNamed, IsNamedAccess, EachAccess, found_access, named_accesses}

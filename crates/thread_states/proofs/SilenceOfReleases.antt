@@ -28,13 +28,13 @@ use Rattle.c_program.proofs.Cells.{cell_same}
 use Rattle.c_program.proofs.Named.{named}
 use Rattle.c_program.proofs.Standing.{is_point}
 use Rattle.path_simulation.specs.Simulates.{LastStep, origin_in}
-use Rattle.mutex_ownership.specs.Names.{Names}
+use Rattle.pointer_targets.specs.Names.{Names}
 use Rattle.mutex_ownership.proofs.MutexAsks.{RetakesBy, retakes_by}
 use Rattle.mutex_ownership.proofs.Remembering.{sync_is}
-use Rattle.thread_states.specs.Objects.{ObjectState, Is_joined, Is_detached, Doing, is_of_sort, type_of_sort}
+use Rattle.static_facts.specs.ObjectStates.{ObjectState, Is_joined, Is_detached, Doing, is_of_sort, type_of_sort}
 use Rattle.thread_states.specs.Premises.{Premises, ObjectsAreStatic, LeadsToObject}
 use Rattle.thread_states.specs.Seen.{when, use_by, use_with, mark_use}
-use Rattle.thread_states.specs.ThreadStates.{is_creation, MayBe, along, made_outside}
+use Rattle.static_facts.specs.ThreadStates.{is_creation, MayBe, along, made_outside}
 use Rattle.thread_states.specs.Findings.{releases_thread, ReleasesThread}
 use Rattle.thread_states.specs.Laws.{IsObjectAt, state_of_mark, state_held, state_of_object, NoneOutside, ThreadStatesArePossible, HasNoReleaseFinding, SilentOn22_11}
 use Rattle.thread_states.proofs.Asking.{Leads}
@@ -47,7 +47,7 @@ use Rattle.thread_states.proofs.Reaching.{reachable}
 use Rattle.thread_states.proofs.Simulating.{place_typed}
 use Rattle.thread_states.proofs.SilenceOfLives.{created_thread}
 use Rattle.thread_states.proofs.Stopping.{led}
-use Rattle.thread_states.specs.States.{MayBeAlong}
+use Rattle.static_facts.specs.ObjectPaths.{MayBeAlong}
 use Rattle.c_program.specs.Counters.{arguments_of}
 
 -- a call that creates, joins or detaches by the object of its first argument

@@ -28,16 +28,16 @@ use Rattle.c_program.proofs.Named.{named}
 use Rattle.c_program.proofs.Stays.{others, origins}
 use Rattle.path_simulation.specs.Simulates.{LastStep, GoesOn, Simulates, EachIsFollowed, origin_in}
 use Rattle.path_simulation.proofs.Simulated.{simulated}
-use Rattle.mutex_ownership.specs.Names.{Names, MayName, IsExact}
-use Rattle.mutex_ownership.specs.Outcomes.{Remembered, kept_behind, follows_outcome, remembered_by}
+use Rattle.pointer_targets.specs.Names.{Names, MayName, IsExact}
+use Rattle.static_facts.specs.Outcomes.{Remembered, kept_behind, follows_outcome, remembered_by}
 use Rattle.mutex_ownership.specs.Owning.{OutcomeAt, OutcomeIn}
 use Rattle.mutex_ownership.proofs.Later.{lt_differs, thread_made}
 use Rattle.mutex_ownership.proofs.MutexAsks.{RetakesBy, retakes_by, cell_equal}
 use Rattle.mutex_ownership.proofs.OtherThreads.{kept_outcome}
 use Rattle.mutex_ownership.proofs.Remembering.{sync_is}
-use Rattle.thread_states.specs.Objects.{ObjectState, Is_unmade, Is_live, Doing, Begins, Joins_it, Detaches_it, Ends_it, doing_of, result_of_call, changed, changed_by, type_of_sort, is_of_sort}
+use Rattle.static_facts.specs.ObjectStates.{ObjectState, Is_unmade, Is_live, Doing, Begins, Joins_it, Detaches_it, Ends_it, doing_of, result_of_call, changed, changed_by, type_of_sort, is_of_sort}
 use Rattle.thread_states.specs.Premises.{Premises, LeadsToObject}
-use Rattle.thread_states.specs.States.{Mark, Follows_none, At, IsNoStart, ObjectStep, follows_none, passes, moves, leaves, succeeds, fails, may_succeed, may_fail, elsewhere, Starts, states}
+use Rattle.static_facts.specs.ObjectPaths.{Mark, Follows_none, At, IsNoStart, ObjectStep, follows_none, passes, moves, leaves, succeeds, fails, may_succeed, may_fail, elsewhere, Starts, states}
 use Rattle.thread_states.specs.Seen.{when, use_by, use_with, seen}
 use Rattle.thread_states.specs.Following.{AgreesAt, Agrees}
 use Rattle.thread_states.proofs.Asking.{Leads, IsUsed, BeginsBy, ChangesBy, ByDoing, doing_asks, doing_goes, wait_does}

@@ -16,7 +16,7 @@ use Rattle.c_program.specs.Laws.{Names as RequestNames}
 use Rattle.c_program.proofs.Asks.{EachAsk, from_each}
 use Rattle.c_program.proofs.Named.{named}
 use Rattle.path_simulation.specs.Simulates.{LastStep}
-use Rattle.mutex_ownership.specs.Outcomes.{Remembered}
+use Rattle.static_facts.specs.Outcomes.{Remembered}
 use Rattle.mutex_ownership.specs.Owning.{OutcomeAt, OutcomeIn}
 use Rattle.mutex_ownership.proofs.Later.{own_later, own_origin}
 use Rattle.mutex_ownership.proofs.MutexAsks.{WaitsBy, wait_asks, wait_named, RetakesBy, retakes_by}

@@ -23,7 +23,7 @@ use Rattle.path_simulation.proofs.Simulated.{last_step}
 use Rattle.mutex_ownership.proofs.Later.{own_later, new_stand}
 use Rattle.mutex_ownership.proofs.MutexAsks.{cell_equal}
 use Rattle.mutex_ownership.proofs.Owner.{is_busy_by, or_left, or_right}
-use Rattle.thread_states.specs.Objects.{Doing, Begins, Joins_it, Detaches_it, Ends_it}
+use Rattle.static_facts.specs.ObjectStates.{Doing, Begins, Joins_it, Detaches_it, Ends_it}
 use Rattle.thread_states.specs.Seen.{use_by, use_with}
 use Rattle.thread_states.proofs.Quiet.{wait_quiet}
 use Rattle.thread_states.proofs.Waiting.{is_waiting}

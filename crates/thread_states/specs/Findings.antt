@@ -10,11 +10,11 @@ use Rattle.c_program.specs.Values.{Location}
 use Rattle.c_program.specs.Control.{Spot, Point}
 use Rattle.c_program.specs.Faults.{Sort, A_mutex, A_condition, A_key, A_thread, How, Initialises, Uses, Ends_life, is_key}
 use Rattle.c_program.specs.Paths.{LeadsTo, IsReached, IsCyclic}
-use Rattle.mutex_ownership.specs.Names.{Names, MayName}
-use Rattle.thread_states.specs.Objects.{Is_unmade, Is_live, Is_joined, Is_detached, Is_dead}
-use Rattle.thread_states.specs.ThreadStates.{is_creation, MayBe}
-use Rattle.thread_states.specs.Order.{IsLocationOf, IsPlain, IsSettled, thread_of}
-use Rattle.thread_states.specs.Lives.{MayLive}
+use Rattle.pointer_targets.specs.Names.{Names, MayName}
+use Rattle.static_facts.specs.ObjectStates.{Is_unmade, Is_live, Is_joined, Is_detached, Is_dead}
+use Rattle.static_facts.specs.ThreadStates.{is_creation, MayBe}
+use Rattle.static_facts.specs.Order.{IsLocationOf, IsPlain, IsSettled, thread_of}
+use Rattle.static_facts.specs.Lives.{MayLive}
 
 -- a path of the thread leads to the point
 pub record IsReachable (program : Program) (thread : List Spot) (point : Point) : Type 0 where

@@ -5,10 +5,10 @@ use Rattle.c_program.specs.Values.{Cell}
 use Rattle.c_program.specs.Faults.{Sort}
 use Rattle.c_program.specs.Step.{Choice}
 use Rattle.c_program.specs.Runs.{state_after}
-use Rattle.mutex_ownership.specs.Outcomes.{Remembered}
+use Rattle.static_facts.specs.Outcomes.{Remembered}
 use Rattle.mutex_ownership.specs.Owning.{OutcomeIn}
-use Rattle.thread_states.specs.Objects.{ObjectState}
-use Rattle.thread_states.specs.States.{Mark, Follows_none, At}
+use Rattle.static_facts.specs.ObjectStates.{ObjectState}
+use Rattle.static_facts.specs.ObjectPaths.{Mark, Follows_none, At}
 use Rattle.thread_states.specs.Seen.{seen}
 
 pub record AgreesAt (program : Program) (sort : Sort) (object : Cell) (thread : ℕ) (run : List Choice) (state : ObjectState) (outcome : Option Remembered) : Type 0 where

@@ -12,14 +12,14 @@ use Rattle.c_program.specs.declared.guideline.Guideline.TheVariants.{D5_3, R22_1
 use Rattle.c_program.specs.Breaks.{Breaks, point_of}
 use Rattle.c_program.specs.Paths.{Offers, stands_at}
 use Rattle.c_program.specs.Tracks.{life_of}
-use Rattle.mutex_ownership.specs.Names.{Names}
-use Rattle.thread_states.specs.Objects.{ObjectState, Is_unmade, Is_live, Is_joined, Is_detached, Is_dead, IsNoThread, is_of_sort}
-use Rattle.thread_states.specs.States.{MayBeAlong}
+use Rattle.pointer_targets.specs.Names.{Names}
+use Rattle.static_facts.specs.ObjectStates.{ObjectState, Is_unmade, Is_live, Is_joined, Is_detached, Is_dead, IsNoThread, is_of_sort}
+use Rattle.static_facts.specs.ObjectPaths.{MayBeAlong}
 use Rattle.thread_states.specs.Seen.{seen}
-use Rattle.thread_states.specs.Lives.{MayLive}
-use Rattle.thread_states.specs.Order.{Ordered}
+use Rattle.static_facts.specs.Lives.{MayLive}
+use Rattle.static_facts.specs.Order.{Ordered}
 use Rattle.thread_states.specs.Findings.{CreatesOutside, CreatesRepeatedly, UsedBefore, BegunAgain, BegunOutside, UsedDead, EndedBusy, EndedOutside, ReleasedAgain, ReleasedOutside, Nowhere}
-use Rattle.thread_states.specs.ThreadStates.{IsMadeOutside, MayBe}
+use Rattle.static_facts.specs.ThreadStates.{IsMadeOutside, MayBe}
 
 -- a library object of the sort at a static location
 pub record IsObjectAt (program : Program) (sort : Sort) (object : Cell) (location : Location) : Type 0 where

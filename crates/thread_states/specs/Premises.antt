@@ -15,8 +15,8 @@ use Rattle.c_program.specs.Runs.{IsGoodRun, state_after}
 use Rattle.c_program.specs.Step.{Choice}
 use Rattle.c_program.specs.Counters.{arguments_of}
 use Rattle.c_program.specs.Paths.{stands_at, Offers}
-use Rattle.mutex_ownership.specs.Names.{Names, MayName, IsExact}
-use Rattle.thread_states.specs.Objects.{type_of_sort, is_of_sort}
+use Rattle.pointer_targets.specs.Names.{Names, MayName, IsExact}
+use Rattle.static_facts.specs.ObjectStates.{type_of_sort, is_of_sort}
 
 -- a thread stands before a library call whose argument of a number leads to an object of the sort
 pub record LeadsToObject (program : Program) (run : List Choice) (thread : ℕ) (point : Point) (sort : Sort) (argument : ℕ) (object : Cell) : Type 0 where

@@ -8,7 +8,7 @@ use Rattle.c_program.specs.Effects.{Sync, Makes, Marks, Starts, Kills, Starts_co
 use Rattle.c_program.specs.Step.{Choice, Outcome, Does}
 use Rattle.c_program.specs.Runs.{outcome_of}
 use Rattle.c_program.specs.Laws.{accesses_object}
-use Rattle.thread_states.specs.Objects.{ObjectState, Is_unmade, Doing, Begins, Joins_it, Detaches_it, Ends_it, changed_by}
+use Rattle.static_facts.specs.ObjectStates.{ObjectState, Is_unmade, Doing, Begins, Joins_it, Detaches_it, Ends_it, changed_by}
 
 abbrev pub when : Bool → Doing → Option Doing
 when true doing = Some doing

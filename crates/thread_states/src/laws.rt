@@ -1,7 +1,7 @@
 //! The laws of threads and library objects, for proofs over the runs of a program.
 ghost use Rattle.c_program.specs.WellFormed.{IsWellFormed};
 ghost use Rattle.mutex_ownership.specs.Laws.{HeldIsOrdered};
-ghost use Rattle.mutex_ownership.specs.Names.{Names};
+ghost use Rattle.pointer_targets.specs.Names.{Names};
 ghost use Rattle.mutex_ownership.specs.Premises.{Premises as OfMutexes, MutexesAreStatic};
 ghost use Rattle.thread_states.specs.Laws.{DeadIsPossible, LiveIsPossible, OrderedEitherWay, OrderedHappenInOrder, SilentOn22_11, SilentOn22_14, SilentOn22_15, SilentOn22_20, SilentOn5_3, ThreadStatesArePossible, UnmadeIsPossible, WhatIsSeenIsPossible};
 ghost use Rattle.thread_states.specs.Premises.{Premises, ObjectsAreStatic};

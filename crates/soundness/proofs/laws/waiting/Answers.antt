@@ -1,4 +1,4 @@
-use Rattle.guideline_findings.proofs.CycleSilence.{each_link, waiting_sound}
+use Rattle.guideline_silence.proofs.CycleSilence.{each_link, waiting_sound}
 use Rattle.soundness.proofs.Given.{of_findings}
 use Rattle.soundness.proofs.laws.waiting.Goals as goal
 

@@ -1,0 +1,11 @@
+pub mod Points
+pub mod Candidates
+pub mod Outcomes
+pub mod Depths
+pub mod ObjectStates
+pub mod ObjectPaths
+pub mod ThreadStates
+pub mod Lives
+pub mod Order
+pub mod Facts
+pub mod Analyses
