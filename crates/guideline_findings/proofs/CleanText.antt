@@ -2,7 +2,7 @@
 use Rattle.std.proofs.Common.{◌≡◌, refl, Bool, true, false, ◌||◌, ℕ, suc, List, [], ◌∷◌, Some, None}
 use Rattle.std.specs.Prelude.{slice_get}
 use Rattle.std.specs.List.{list_any}
-use Rattle.c_program.specs.declared.guideline.Guideline.TheVariants.{R22_12, R22_13}
+use Rattle.misra_base.specs.declared.guideline.Guideline.TheVariants.{R22_12, R22_13}
 use Rattle.c_program.specs.declared.program.Storage.{Storage}
 use Rattle.c_program.specs.declared.program.Storage.TheVariants as storage
 use Rattle.c_program.specs.declared.program.Object.{Object}

@@ -1,7 +1,7 @@
 -- Without a dependent finding the rules of the text have no finding of their own.
 use Rattle.std.proofs.Common.{◌≡◌, inl, inr, true, ℕ, zero, suc, ◌<◌, arith}
-use Rattle.c_program.specs.declared.guideline.Guideline.{Guideline}
-use Rattle.c_program.specs.declared.types.Place.{Place}
+use Rattle.misra_base.specs.declared.guideline.Guideline.{Guideline}
+use Rattle.misra_base.specs.declared.place.Place.{Place}
 use Rattle.c_program.specs.declared.program.Program.{Program}
 use Rattle.static_facts.specs.Facts.{Facts}
 use Rattle.guideline_findings.specs.Findings.{dependent, is_semantic, IsEarlier, IsFoundInText, IsClean}

@@ -1,8 +1,8 @@
 -- The findings of the nineteen guidelines: the table, one row for each kind.
 use Rattle.std.specs.Prelude.{◌≡◌, ◌⊎◌, ℕ, ◌<◌, Bool, true, false, List, Option, Some, None}
-use Rattle.c_program.specs.declared.guideline.Guideline.{Guideline}
-use Rattle.c_program.specs.declared.guideline.Guideline.TheVariants.{D5_1, D5_2, D5_3, R15_4, R15_5, R17_7, R17_8, R21_25, R21_26, R22_11, R22_12, R22_13, R22_14, R22_15, R22_16, R22_17, R22_18, R22_19, R22_20}
-use Rattle.c_program.specs.declared.types.Place.{Place}
+use Rattle.misra_base.specs.declared.guideline.Guideline.{Guideline}
+use Rattle.misra_base.specs.declared.guideline.Guideline.TheVariants.{D5_1, D5_2, D5_3, R15_4, R15_5, R17_7, R17_8, R21_25, R21_26, R22_11, R22_12, R22_13, R22_14, R22_15, R22_16, R22_17, R22_18, R22_19, R22_20}
+use Rattle.misra_base.specs.declared.place.Place.{Place}
 use Rattle.c_program.specs.declared.action.Act.{Act}
 use Rattle.c_program.specs.declared.program.Storage.TheVariants as storage
 use Rattle.c_program.specs.declared.program.Object.{Object}

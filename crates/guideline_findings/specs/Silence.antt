@@ -1,7 +1,7 @@
 -- When a guideline is silent: it has no finding, and no run breaks it.
 use Rattle.std.specs.Prelude.{◌≡◌, true, List}
-use Rattle.c_program.specs.declared.guideline.Guideline.{Guideline}
-use Rattle.c_program.specs.declared.types.Place.{Place}
+use Rattle.misra_base.specs.declared.guideline.Guideline.{Guideline}
+use Rattle.misra_base.specs.declared.place.Place.{Place}
 use Rattle.c_program.specs.declared.program.Program.{Program}
 use Rattle.c_program.specs.Step.{Choice}
 use Rattle.c_program.specs.Runs.{IsRun}

@@ -1,6 +1,6 @@
 -- Where Rule 22.19 has no finding, no run breaks it.
 use Rattle.std.proofs.Common.{◌≡◌, ◌≢◌, refl, sym, subst, ap, ◌∙◌, true, false, List, [], ◌∷◌, Option, Some, None}
-use Rattle.c_program.specs.declared.guideline.Guideline.TheVariants.{R22_19}
+use Rattle.misra_base.specs.declared.guideline.Guideline.TheVariants.{R22_19}
 use Rattle.c_program.specs.declared.program.Program.{Program}
 use Rattle.c_program.specs.Syntax.{act_at}
 use Rattle.c_program.specs.Values.{Cell, Location, same_cell}

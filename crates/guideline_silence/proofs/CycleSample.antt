@@ -6,7 +6,7 @@ use Rattle.c_program.specs.declared.expression.Expr.{Constant, Object}
 use Rattle.c_program.specs.declared.action.Act.TheVariants.{Library}
 use Rattle.c_program.specs.declared.action.LibraryCall.TheVariants.{ThreadCreate, MutexLock}
 use Rattle.c_program.specs.declared.statement.Statement.{Statement, Do}
-use Rattle.c_program.specs.declared.guideline.Guideline.TheVariants.{D5_2}
+use Rattle.misra_base.specs.declared.guideline.Guideline.TheVariants.{D5_2}
 use Rattle.c_program.specs.declared.program.Program.{Program}
 use Rattle.c_program.specs.Syntax.{act_at, body_at}
 use Rattle.c_program.specs.Types.{plain_type}

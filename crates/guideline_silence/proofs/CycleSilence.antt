@@ -1,6 +1,6 @@
 -- Where Directive 5.2 has no finding, no run reaches a waiting cycle.
 use Rattle.std.proofs.Common.{◌≡◌, inl, inr, refl, sym, subst, ap, List, [], ◌∷◌}
-use Rattle.c_program.specs.declared.guideline.Guideline.TheVariants.{D5_2}
+use Rattle.misra_base.specs.declared.guideline.Guideline.TheVariants.{D5_2}
 use Rattle.c_program.specs.declared.program.Program.{Program}
 use Rattle.c_program.specs.State.{State}
 use Rattle.c_program.specs.Step.{Choice, Outcome, No_step, Undefined, Does, outcome, advanced}

@@ -1,7 +1,7 @@
 -- Rules 22.16, 22.17 and 22.18: what `owners` says of its rows, said of the table.
 use Rattle.std.proofs.Common.{◌≡◌, refl, true, ℕ, List}
-use Rattle.c_program.specs.declared.guideline.Guideline.{Guideline}
-use Rattle.c_program.specs.declared.guideline.Guideline.TheVariants.{R22_16, R22_17, R22_18}
+use Rattle.misra_base.specs.declared.guideline.Guideline.{Guideline}
+use Rattle.misra_base.specs.declared.guideline.Guideline.TheVariants.{R22_16, R22_17, R22_18}
 use Rattle.c_program.specs.declared.program.Program.{Program}
 use Rattle.c_program.specs.Values.{Location}
 use Rattle.c_program.specs.Control.{Spot, Point}

@@ -6,7 +6,7 @@ use Rattle.c_program.specs.declared.expression.Expr.{Constant, Object}
 use Rattle.c_program.specs.declared.action.Act.TheVariants.{Library, Write}
 use Rattle.c_program.specs.declared.action.LibraryCall.TheVariants.{ThreadCreate}
 use Rattle.c_program.specs.declared.statement.Statement.{Do}
-use Rattle.c_program.specs.declared.guideline.Guideline.TheVariants.{D5_1}
+use Rattle.misra_base.specs.declared.guideline.Guideline.TheVariants.{D5_1}
 use Rattle.c_program.specs.declared.program.Program.{Program}
 use Rattle.c_program.specs.Syntax.{c_int, act_at, body_at}
 use Rattle.c_program.specs.Types.{plain_type}

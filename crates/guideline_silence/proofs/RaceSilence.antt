@@ -1,7 +1,7 @@
 -- Where Directive 5.1 has no finding, no run has a race.
 use Rattle.std.proofs.Common.{◌≡◌, ◌≢◌, refl, sym, subst, ap, ◌∙◌, Bool, true, false, ◌==◌, ℕ, suc, ◌<◌, List, [], ◌∷◌, ◌++◌, length, Some, eqb-true, arith}
 use Rattle.std.proofs.lemmas.Grind.{common_steps}
-use Rattle.c_program.specs.declared.guideline.Guideline.TheVariants.{D5_1}
+use Rattle.misra_base.specs.declared.guideline.Guideline.TheVariants.{D5_1}
 use Rattle.c_program.specs.declared.program.Program.{Program}
 use Rattle.c_program.specs.Values.{Root, Static, Of_thread, Of_frame, Cell, Location, location_of, location_in, static_root, is_static, is_data_cell}
 use Rattle.c_program.specs.Control.{Spot, Point, string_of, spot_in}

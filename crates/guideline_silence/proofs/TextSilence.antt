@@ -2,7 +2,7 @@
 use Rattle.std.proofs.Common.{◌≡◌, ◌⊎◌, inl, inr, refl, sym, subst, ap, ◌∙◌, Bool, true, false, not, ◌||◌, ℕ, ℤ, suc, List, [], ◌∷◌, Option, Some, None}
 use Rattle.std.specs.Prelude.{slice_get, option_map, unwrap_or}
 use Rattle.std.specs.List.{list_any}
-use Rattle.c_program.specs.declared.guideline.Guideline.TheVariants.{R21_25, R22_12, R22_13}
+use Rattle.misra_base.specs.declared.guideline.Guideline.TheVariants.{R21_25, R22_12, R22_13}
 use Rattle.c_program.specs.declared.action.LibraryCall.TheVariants as lib
 use Rattle.c_program.specs.declared.action.Act.{Act}
 use Rattle.c_program.specs.declared.action.Act.TheVariants as act

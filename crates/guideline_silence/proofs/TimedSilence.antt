@@ -1,6 +1,6 @@
 -- Where Rule 21.26 has no finding, no run breaks it.
 use Rattle.std.proofs.Common.{◌≡◌, refl, sym, subst, ◌∙◌, false, ℤ, List, [], ◌∷◌, Some, None}
-use Rattle.c_program.specs.declared.guideline.Guideline.TheVariants.{R21_26}
+use Rattle.misra_base.specs.declared.guideline.Guideline.TheVariants.{R21_26}
 use Rattle.c_program.specs.declared.program.Program.{Program}
 use Rattle.c_program.specs.Syntax.{act_at}
 use Rattle.c_program.specs.Values.{Cell, Location, location_of}

@@ -1,6 +1,6 @@
 -- What is promised of the findings.
 use Rattle.std.specs.Prelude.{◌≡◌, true, ℕ, List, Some}
-use Rattle.c_program.specs.declared.guideline.Guideline.{Guideline}
+use Rattle.misra_base.specs.declared.guideline.Guideline.{Guideline}
 use Rattle.c_program.specs.declared.program.Program.{Program}
 use Rattle.c_program.specs.Values.{Cell, Location, location_of}
 use Rattle.c_program.specs.State.{State}

@@ -1,8 +1,8 @@
 -- What other parts prove, by name.
 use Rattle.std.specs.Prelude.{◌≡◌, ◌≢◌, ℕ, ◌<◌, Bool, true, false, ◌&&◌, List, Option, Some, None, slice_get}
 use Rattle.std.specs.List.{list_any}
-use Rattle.c_program.specs.declared.types.Place.{Place}
-use Rattle.c_program.specs.declared.guideline.Guideline.TheVariants.{D5_3, R22_11, R22_14, R22_15, R22_20}
+use Rattle.misra_base.specs.declared.place.Place.{Place}
+use Rattle.misra_base.specs.declared.guideline.Guideline.TheVariants.{D5_3, R22_11, R22_14, R22_15, R22_20}
 use Rattle.c_program.specs.declared.expression.Expr.{Expr}
 use Rattle.c_program.specs.declared.action.Local.{Local}
 use Rattle.c_program.specs.declared.action.LibraryCall.{LibraryCall}

@@ -1,7 +1,7 @@
 //! The laws of findings, for proofs over the runs of a program.
 ghost use Rattle.std.specs.Prelude.{◌≡◌, true};
-ghost use Rattle.c_program.specs.declared.guideline.Guideline.{Guideline as AGuideline};
-ghost use Rattle.c_program.specs.declared.guideline.Guideline.TheVariants.{D5_1, D5_2, R21_25, R21_26, R22_12, R22_13, R22_16, R22_17, R22_18, R22_19};
+ghost use Rattle.misra_base.specs.declared.guideline.Guideline.{Guideline as AGuideline};
+ghost use Rattle.misra_base.specs.declared.guideline.Guideline.TheVariants.{D5_1, D5_2, R21_25, R21_26, R22_12, R22_13, R22_16, R22_17, R22_18, R22_19};
 ghost use Rattle.c_program.specs.WellFormed.{IsWellFormed};
 ghost use Rattle.static_facts.specs.Facts.{Facts};
 ghost use Rattle.guideline_silence.specs.Premises.{Given, DeclaresNames};

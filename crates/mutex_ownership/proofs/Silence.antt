@@ -2,7 +2,7 @@
 use Rattle.std.proofs.Common.{◌≡◌, ◌⊎◌, inl, inr, refl, sym, subst, ap, ◌∙◌, Bool, true, false, cond, not, ◌&&◌, ◌==◌, ℕ, ℤ, zero, suc, ◌<◌, ◌+◌, min, List, [], ◌∷◌, ◌++◌, Option, Some, None, eqb-true, arith}
 use Rattle.std.proofs.lemmas.Grind.{common_steps}
 use Rattle.std.specs.Prelude.{slice_get}
-use Rattle.c_program.specs.declared.guideline.Guideline.TheVariants.{R22_16, R22_17, R22_18}
+use Rattle.misra_base.specs.declared.guideline.Guideline.TheVariants.{R22_16, R22_17, R22_18}
 use Rattle.c_program.specs.declared.expression.Expr.{Expr}
 use Rattle.c_program.specs.declared.action.LibraryCall.TheVariants as lib
 use Rattle.c_program.specs.declared.action.Act.{Act}

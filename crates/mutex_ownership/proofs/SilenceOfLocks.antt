@@ -1,7 +1,7 @@
 -- Where Rules 22.16 and 22.18 have no finding, no run breaks them.
 use Rattle.std.proofs.Common.{◌≡◌, ◌≢◌, ◌⊎◌, inl, inr, refl, sym, subst, ap, ◌∙◌, Bool, true, false, cond, not, ◌&&◌, ◌==◌, ℕ, ℤ, zero, suc, ◌<◌, ◌+◌, min, List, [], ◌∷◌, ◌++◌, length, Option, Some, None, eqb-true, arith}
 use Rattle.std.proofs.lemmas.Grind.{common_steps}
-use Rattle.c_program.specs.declared.guideline.Guideline.TheVariants.{R22_16, R22_18}
+use Rattle.misra_base.specs.declared.guideline.Guideline.TheVariants.{R22_16, R22_18}
 use Rattle.c_program.specs.declared.action.LibraryCall.TheVariants as lib
 use Rattle.c_program.specs.declared.action.Act.{Act}
 use Rattle.c_program.specs.declared.action.Act.TheVariants as act

@@ -1,6 +1,6 @@
 -- What is promised of owners.
 use Rattle.std.specs.Prelude.{◌≡◌, ◌≢◌, ◌⊎◌, ℕ, ◌<◌, ◌≤◌, ◌==◌, true, false, min, List, [], ◌∷◌, length, Option, Some, None}
-use Rattle.c_program.specs.declared.guideline.Guideline.TheVariants.{R22_16, R22_17, R22_18}
+use Rattle.misra_base.specs.declared.guideline.Guideline.TheVariants.{R22_16, R22_17, R22_18}
 use Rattle.c_program.specs.declared.program.Program.{Program}
 use Rattle.c_program.specs.Values.{Cell, Location, location_of, same_cell}
 use Rattle.c_program.specs.Control.{Control, Move, Spot, Point}

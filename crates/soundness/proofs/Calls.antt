@@ -1,7 +1,7 @@
 -- What calls do, in the words of the threads and in those of the findings.
 use Rattle.std.proofs.Common.{◌≡◌, ◌⊎◌, inl, inr, refl, sym, subst, true, false, ◌||◌, ℕ, [], Some}
 use Rattle.std.specs.List.{Contains}
-use Rattle.c_program.specs.declared.guideline.Guideline.TheVariants.{R22_14, R22_20}
+use Rattle.misra_base.specs.declared.guideline.Guideline.TheVariants.{R22_14, R22_20}
 use Rattle.c_program.specs.declared.action.LibraryCall.TheVariants as lib
 use Rattle.c_program.specs.declared.action.Act.{Act}
 use Rattle.c_program.specs.declared.action.Act.TheVariants as act

@@ -2,8 +2,8 @@
 -- initial thread's own steps are told. So sound answers are there for each program, and even these say something: where no
 -- action creates a thread, no run has a race.
 use Rattle.std.proofs.Common.{◌≡◌, refl, sym, subst, ap, ◌∙◌, Bool, true, false, ◌&&◌, ℕ, List, [], ◌∷◌, Option, Some, None}
-use Rattle.c_program.specs.declared.guideline.Guideline.TheVariants.{D5_1}
-use Rattle.c_program.specs.declared.types.Place.{Place}
+use Rattle.misra_base.specs.declared.guideline.Guideline.TheVariants.{D5_1}
+use Rattle.misra_base.specs.declared.place.Place.{Place}
 use Rattle.c_program.specs.declared.program.Program.{Program}
 use Rattle.c_program.specs.Syntax.{act_at}
 use Rattle.c_program.specs.Control.{Spot, Point}

@@ -1,7 +1,7 @@
 -- Exact answers of a small program, and what silence says of it.
 use Rattle.std.proofs.Common.{◌≡◌, ◌⊎◌, inl, inr, refl, sym, subst, ap, ◌∙◌, Bool, true, false, not, ◌&&◌, ◌==◌, ℕ, zero, suc, List, [], ◌∷◌, Option, Some, None, eqb-true}
 use Rattle.std.specs.Prelude.{pos, slice_get}
-use Rattle.c_program.specs.declared.guideline.Guideline.{Guideline}
+use Rattle.misra_base.specs.declared.guideline.Guideline.{Guideline}
 use Rattle.c_program.specs.declared.expression.Expr.{Expr, Constant, Object}
 use Rattle.c_program.specs.declared.action.Local.{Local as LocalOf}
 use Rattle.c_program.specs.declared.action.LibraryCall.{LibraryCall}

@@ -1,6 +1,6 @@
 -- Where Rule 22.11 has no finding, the initial thread alone joins and detaches.
 use Rattle.std.proofs.Common.{◌≡◌, refl, Bool, true, false, ◌==◌, List, Option, Some, None, eqb-true}
-use Rattle.c_program.specs.declared.guideline.Guideline.TheVariants.{R22_11}
+use Rattle.misra_base.specs.declared.guideline.Guideline.TheVariants.{R22_11}
 use Rattle.c_program.specs.declared.program.Program.{Program}
 use Rattle.c_program.specs.Syntax.{act_at}
 use Rattle.c_program.specs.Values.{Cell, Location, location_of}

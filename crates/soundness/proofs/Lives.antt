@@ -1,7 +1,7 @@
 -- Lives, where the rules on them have no finding.
 use Rattle.std.proofs.Common.{◌≡◌, refl, sym, subst, Some}
-use Rattle.c_program.specs.declared.guideline.Guideline.{Guideline}
-use Rattle.c_program.specs.declared.guideline.Guideline.TheVariants.{R22_14, R22_15, R22_20}
+use Rattle.misra_base.specs.declared.guideline.Guideline.{Guideline}
+use Rattle.misra_base.specs.declared.guideline.Guideline.TheVariants.{R22_14, R22_15, R22_20}
 use Rattle.c_program.specs.declared.program.Program.{Program}
 use Rattle.c_program.specs.Faults.{A_mutex, A_condition, A_key, A_thread}
 use Rattle.c_program.specs.WellFormed.{IsWellFormed}

@@ -1,6 +1,6 @@
 -- What the threads find, the findings find: where a guideline is clean, there is no finding in the words of the threads.
 use Rattle.std.proofs.Common.{◌≡◌, ◌⊎◌, inl, inr, refl, sym, ◌∙◌, Bool, true, false, ℕ, List, [], Option, Some, None}
-use Rattle.c_program.specs.declared.guideline.Guideline.TheVariants.{D5_3, R22_11, R22_14, R22_15, R22_20}
+use Rattle.misra_base.specs.declared.guideline.Guideline.TheVariants.{D5_3, R22_11, R22_14, R22_15, R22_20}
 use Rattle.c_program.specs.declared.program.Program.{Program}
 use Rattle.c_program.specs.Syntax.{act_at}
 use Rattle.c_program.specs.Values.{Location}

@@ -1,5 +1,5 @@
 -- Silence is sound.
-use Rattle.c_program.specs.declared.guideline.Guideline.{Guideline}
+use Rattle.misra_base.specs.declared.guideline.Guideline.{Guideline}
 use Rattle.c_program.specs.declared.program.Program.{Program}
 use Rattle.c_program.specs.WellFormed.{IsWellFormed}
 use Rattle.static_facts.specs.Facts.{Facts}

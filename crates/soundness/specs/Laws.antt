@@ -1,7 +1,7 @@
 -- What is promised of lives and joins, in the words of the findings. The other promises are those of the parts.
 use Rattle.std.specs.Prelude.{◌≡◌, List, Option, Some, Bool, true, false}
-use Rattle.c_program.specs.declared.guideline.Guideline.{Guideline}
-use Rattle.c_program.specs.declared.guideline.Guideline.TheVariants.{R22_11, R22_15}
+use Rattle.misra_base.specs.declared.guideline.Guideline.{Guideline}
+use Rattle.misra_base.specs.declared.guideline.Guideline.TheVariants.{R22_11, R22_15}
 use Rattle.c_program.specs.declared.program.Program.{Program}
 use Rattle.c_program.specs.Values.{Cell, Location}
 use Rattle.c_program.specs.Control.{Control, Move}

@@ -1,6 +1,6 @@
 //! The promise of the whole: what the analyses find nothing of, no run does; and what it stands on.
 ghost use Rattle.std.specs.Prelude.{◌≡◌};
-ghost use Rattle.c_program.specs.declared.guideline.Guideline.{Guideline as AGuideline};
+ghost use Rattle.misra_base.specs.declared.guideline.Guideline.{Guideline as AGuideline};
 ghost use Rattle.c_program.specs.WellFormed.{IsWellFormed};
 ghost use Rattle.c_program.specs.Laws.{ControlIsSound};
 ghost use Rattle.mutex_ownership.specs.Laws.{EachDepthIsPossible, HeldIsOrdered, IsHandedOver};

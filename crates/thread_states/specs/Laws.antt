@@ -8,7 +8,7 @@ use Rattle.c_program.specs.Faults.{Sort, A_thread, is_key}
 use Rattle.c_program.specs.Step.{Choice}
 use Rattle.c_program.specs.Runs.{IsGoodRun, IsRun, state_after, Moment, moment_at}
 use Rattle.c_program.specs.Happens.{Before, state_at}
-use Rattle.c_program.specs.declared.guideline.Guideline.TheVariants.{D5_3, R22_11, R22_14, R22_15, R22_20}
+use Rattle.misra_base.specs.declared.guideline.Guideline.TheVariants.{D5_3, R22_11, R22_14, R22_15, R22_20}
 use Rattle.c_program.specs.Breaks.{Breaks, point_of}
 use Rattle.c_program.specs.Paths.{Offers, stands_at}
 use Rattle.c_program.specs.Tracks.{life_of}
