@@ -15,8 +15,8 @@ use Rattle.c_program.specs.Evaluation.{root_in, root_of}
 use Rattle.c_program.specs.Values.{Cell, Value, Number, Of_frame, Location, location_of, same_cell}
 use Rattle.c_program.specs.Control.{Control, Move, Spot, Point, goes_on, string_of}
 use Rattle.c_program.specs.State.{State, Stand, Not_made, Running, Ended, Frame, Life, Unmade, Live, Dead, Mutex, depth_of, inside_of, frames_of, top, here}
-use Rattle.c_program.specs.Requests.{Request, Locks, Tries, Tries_timed, Unlocks, Destroys, Retakes, Waits, Turn, Goes, Ask, Asks, asked, Store}
-use Rattle.c_program.specs.Faults.{is_live, is_result, may_answer}
+use Rattle.c_program.specs.Requests.{Request, Locks, Tries, Tries_timed, Unlocks, Destroys, Retakes, Waits, Turn, Goes, Ask, Asks, asked, Store, mutex_type}
+use Rattle.c_program.specs.Faults.{is_live, is_result, may_answer, A_mutex}
 use Rattle.c_program.specs.Effects.{Sync, Starts, Takes, Gives, Suspends, Resumes, Kills, Finishes, Effect, Use, Keeps, Begins, Takes_it, Gives_it, Dies, use_if, use_of, own_stand, frames_after, is_among, put_result, stores_of, effect_of, memory_after, sync_of, sync_after, if_done, after}
 use Rattle.c_program.specs.Step.{Choice, asked_by}
 use Rattle.c_program.specs.Runs.{state_after}
@@ -35,7 +35,8 @@ use Rattle.path_simulation.proofs.Plain.{string_left}
 use Rattle.path_simulation.specs.Tracks.{Track}
 use Rattle.path_simulation.specs.Simulates.{LastStep, GoesOn, Simulates, EachIsFollowed, origin_in}
 use Rattle.pointer_targets.specs.Names.{Names, MayName, IsExact}
-use Rattle.mutex_ownership.specs.Premises.{Premises, LeadsToMutex, is_mutex}
+use Rattle.pointer_targets.proofs.Told.{Told}
+use Rattle.pointer_targets.specs.LibraryObjects.{LeadsToObject, is_of_sort}
 use Rattle.static_facts.specs.Outcomes.{Remembered, Test, kept_behind, forgets, follows_outcome, remembered_by, is_int_local, test_of, is_tested_side, decided, is_side}
 use Rattle.static_facts.specs.Depths.{Mark, marked, one_more, Doing, Does_lock, Does_unlock, Does_destroy, Does_try, doing_of, DepthMoves, IsNoTry, DepthStep, passes, moves, leaves, succeeds, fails, may_succeed, may_fail, elsewhere, depths}
 use Rattle.mutex_ownership.specs.Owning.{level_of, depth_with_wait, HasFrame, HasOutcome, OutcomeAt, OutcomeIn, AgreesIn, Agrees}
@@ -95,8 +96,8 @@ none_in program memory origin (Ended result) = tt
 
 -- ---- a step of the thread that goes on
 
-module _ (program : Program) (well : IsWellFormed program) (names : Names) (premises : Premises program names) (c : Cell) (location : Location)
-    (located : location_of program c ≡ Some location) (of_mutex : is_mutex program c ≡ true)
+module _ (program : Program) (well : IsWellFormed program) (names : Names) (premises : Told program names) (c : Cell) (location : Location)
+    (located : location_of program c ≡ Some location) (of_sort : is_of_sort program A_mutex c ≡ true)
     (choice : Choice) (run : List Choice) (step : LastStep program choice run) where
   abbrev t : ℕ
   t = choice.thread
@@ -181,7 +182,7 @@ module _ (program : Program) (well : IsWellFormed program) (names : Names) (prem
         passed d f e = (marked mark.depth (kept_behind point action mark.outcome),
             (passes mark.depth mark.outcome d f, agrees_later (marked mark.depth (kept_behind point action mark.outcome)) e (kept mark.outcome outcome_before)))
 
-        leads_here : (argument : ℕ) (m : Cell) → step.by.inside ≡ None → Leads (here program state t) action argument m → LeadsToMutex program run t point argument m
+        leads_here : (argument : ℕ) (m : Cell) → step.by.inside ≡ None → Leads (here program state t) action argument m → LeadsToObject program mutex_type run t point argument m
         leads_here argument m e l = record {
           control = step.by.control;
           frames = step.by.frames;
@@ -198,11 +199,11 @@ module _ (program : Program) (well : IsWellFormed program) (names : Names) (prem
         }
 
         may_name_here : (m : Cell) → step.by.inside ≡ None → Leads (here program state t) action 0 m → same_cell m c ≡ true → MayName names point 0 location
-        may_name_here m e l s = premises.may_name run t point 0 m location step.good (leads_here 0 m e l) (ap (location_of program) (cell_same m c s) ∙ located)
+        may_name_here m e l s = premises.may_name run t point A_mutex 0 m location step.good (leads_here 0 m e l) (ap (location_of program) (cell_same m c s) ∙ located)
 
         not_exact : (m : Cell) → step.by.inside ≡ None → Leads (here program state t) action 0 m → same_cell m c ≡ false → IsExact names point 0 location → ⊥
-        not_exact m e l s x = let p = premises.exact run t point 0 m location step.good (leads_here 0 m e l) x in
-            let q = premises.one_cell m c location (place_mutex (here program state t) l.expression m l.leads) of_mutex p located in
+        not_exact m e l s x = let p = premises.exact run t point A_mutex 0 m location step.good (leads_here 0 m e l) x in
+            let q = premises.one_cell A_mutex m c location (place_mutex (here program state t) l.expression m l.leads) of_sort p located in
             let r : same_cell m c ≡ true = cell_equal m c q in cc
 
         -- a lock, an unlock or a destruction

@@ -27,7 +27,7 @@ use Rattle.c_program.proofs.Cells.{cell_same}
 use Rattle.c_program.proofs.Named.{named}
 use Rattle.path_simulation.specs.Simulates.{LastStep}
 use Rattle.path_simulation.proofs.Simulated.{last_step}
-use Rattle.mutex_ownership.specs.Premises.{LeadsToMutex}
+use Rattle.pointer_targets.specs.LibraryObjects.{LeadsToObject}
 use Rattle.mutex_ownership.proofs.MutexAsks.{RetakesBy, retakes_by}
 use Rattle.mutex_ownership.proofs.Remembering.{sync_is}
 
@@ -37,7 +37,7 @@ pub record Begun (program : Program) (m : Cell) (kind : MutexKind) : Type 0 wher
   pub good : IsGoodRun program run
   pub thread : ℕ
   pub point : Point
-  pub leads : LeadsToMutex program run thread point 0 m
+  pub leads : LeadsToObject program mutex_type run thread point 0 m
   pub expression : Expr
   pub into : Option Local
   pub is_init : act_at program point.spot.action ≡ act.Library (lib.MutexInit expression kind) into

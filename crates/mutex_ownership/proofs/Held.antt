@@ -7,7 +7,7 @@ use Rattle.c_program.specs.Values.{Cell, Location, same_cell}
 use Rattle.c_program.specs.Control.{Spot, Point, string_of, spot_in}
 use Rattle.c_program.specs.State.{State, Stand, Running, Life, Unmade, Live, Dead, Mutex, depth_of, inside_of, control_of, string_at, spot_at}
 use Rattle.c_program.specs.Requests.{Request, Retakes, Turn, Goes, Ask, Asks}
-use Rattle.c_program.specs.Faults.{is_free_for}
+use Rattle.c_program.specs.Faults.{is_free_for, A_mutex}
 use Rattle.c_program.specs.Effects.{Sync, Resumes, sync_of, sync_after}
 use Rattle.c_program.specs.Step.{Choice, asked_by}
 use Rattle.c_program.specs.Runs.{IsGoodRun, state_after, Moment, moment_at, Pair}
@@ -21,16 +21,17 @@ use Rattle.c_program.proofs.Cells.{cell_same}
 use Rattle.c_program.proofs.Finds.{finds}
 use Rattle.path_simulation.specs.Simulates.{LastStep}
 use Rattle.pointer_targets.specs.Names.{Names}
-use Rattle.mutex_ownership.specs.Premises.{Premises}
+use Rattle.pointer_targets.proofs.Told.{Told}
 use Rattle.static_facts.specs.Depths.{MayHold, IsSurelyHeld}
 use Rattle.mutex_ownership.specs.Owning.{level_of, depth_with_wait}
-use Rattle.mutex_ownership.specs.Laws.{IsMutexAt, ReleasesAt, TakesAt, HeldIsOrdered}
+use Rattle.mutex_ownership.specs.Laws.{ReleasesAt, TakesAt, HeldIsOrdered}
 use Rattle.mutex_ownership.proofs.MutexAsks.{RetakesBy, retakes_by}
 use Rattle.mutex_ownership.proofs.Remembering.{sync_is}
 use Rattle.mutex_ownership.proofs.Owner.{Owns}
 use Rattle.mutex_ownership.proofs.Possible.{possible_with_wait}
 use Rattle.mutex_ownership.proofs.Moments.{IsMoment, step_of, moment_is, at_within, at_longer, at_shorter, GoodLast, good_last, longer}
 use Rattle.mutex_ownership.proofs.Handover.{one_owner, Since, Released, HoldsFrom, since}
+use Rattle.pointer_targets.specs.LibraryObjects.{IsObjectAt}
 
 -- ---- a step at a point that surely holds the mutex
 
@@ -38,7 +39,7 @@ use Rattle.mutex_ownership.proofs.Handover.{one_owner, Since, Released, HoldsFro
 abbrev pub HoldsBy : State → Cell → ℕ → Sync → Type 0
 HoldsBy state c t sync = Owns state c t ⊎ ((takes sync c ≡ true) × (is_free_for t (state.mutex c) ≡ true))
 
-module _ (program : Program) (well : IsWellFormed program) (names : Names) (premises : Premises program names) (c : Cell) (location : Location) (at : IsMutexAt program c location)
+module _ (program : Program) (well : IsWellFormed program) (names : Names) (premises : Told program names) (c : Cell) (location : Location) (at : IsObjectAt program A_mutex c location)
     (choice : Choice) (run : List Choice) (step : LastStep program choice run) where
   abbrev t : ℕ
   t = choice.thread
@@ -115,7 +116,7 @@ module _ (program : Program) (c : Cell) (run : List Choice) (i j u : ℕ) (s : �
   to_taking l t less took = by_mutex u l (record { first = gave.moment; second = took.moment; earlier = less; at_first = gave.at; at_second = took.at }) c
       (subst (λ n. releases gave.moment.effect.sync n ((state_at program gave.moment).mutex c) c ≡ true) (sym gave.by) gave.releases_it) took.takes_it
 
-module _ (program : Program) (well : IsWellFormed program) (names : Names) (premises : Premises program names) (c : Cell) (location : Location) (at : IsMutexAt program c location) where
+module _ (program : Program) (well : IsWellFormed program) (names : Names) (premises : Told program names) (c : Cell) (location : Location) (at : IsObjectAt program A_mutex c location) where
   held_at : (m : Moment) → (s : IsMoment program m) → IsSurelyHeld program names location ((state_at program m).thread m.choice.thread).origin (point_of program m)
       → HoldsBy (state_at program m) c m.choice.thread m.effect.sync
   held_at m s h = held_step program well names premises c location at m.choice m.earlier (step_of program m s)
@@ -219,5 +220,5 @@ module _ (program : Program) (well : IsWellFormed program) (names : Names) (prem
   unfolding HeldAt Apart
   held_ordered run good i j first second a b l n h k = ordered run good i j first second a b l n h k
 
-pub held_is_ordered : (program : Program) → IsWellFormed program → (names : Names) → Premises program names → HeldIsOrdered program names
+pub held_is_ordered : (program : Program) → IsWellFormed program → (names : Names) → Told program names → HeldIsOrdered program names
 held_is_ordered program well names premises c location at run good i j first second a b l n h k = held_ordered program well names premises c location at run good i j first second a b l n h k

@@ -17,8 +17,9 @@ use Rattle.c_program.specs.Effects.{Sync, Takes, Gives, Kills, Resumes, if_done,
 use Rattle.c_program.specs.Counters.{arguments_of}
 use Rattle.c_program.specs.Laws.{Names}
 use Rattle.c_program.proofs.Asks.{EachAsk, none_each, one_each, with_each, meant_each, so_each}
-use Rattle.mutex_ownership.specs.Premises.{is_mutex}
+use Rattle.pointer_targets.specs.LibraryObjects.{is_of_sort}
 use Rattle.static_facts.specs.Depths.{Doing, Does_lock, Does_unlock, Does_destroy, Does_try, doing_of}
+use Rattle.c_program.specs.Faults.{A_mutex}
 
 -- an argument of the call leads to the mutex
 pub record Leads (here : Here) (action : Act) (argument : ℕ) (m : Cell) : Type 0 where
@@ -249,7 +250,7 @@ branch_asks here e into pair values = none_each (λ ask. BranchesBy here e pair)
 
 -- ---- an argument leads to a mutex
 
-pub place_mutex : (here : Here) (e : Expr) (m : Cell) → place_at here mutex_type e ≡ Some m → is_mutex here.program m ≡ true
+pub place_mutex : (here : Here) (e : Expr) (m : Cell) → place_at here mutex_type e ≡ Some m → is_of_sort here.program A_mutex m ≡ true
 place_mutex here e m p = go (eval here e) p
   where
     same_place : (a b : Cell) → Some a ≡ Some b → a ≡ b
@@ -260,11 +261,11 @@ place_mutex here e m p = go (eval here e) p
     at cell true false q r = absurd (cc)
     at cell false b q r = absurd (cc)
 
-    go : (o : Option Value) → option_and_then (object_at_type here mutex_type) o ≡ Some m → is_mutex here.program m ≡ true
+    go : (o : Option Value) → option_and_then (object_at_type here mutex_type) o ≡ Some m → is_of_sort here.program A_mutex m ≡ true
     go None q = absurd (cc)
     go (Some (Number z)) q = absurd (cc)
-    go (Some (Address cell)) q = let f = at cell (here.is_alive cell.root) (is_mutex here.program cell) refl q in
-        subst (λ (x : Cell). is_mutex here.program x ≡ true) f.1 f.0
+    go (Some (Address cell)) q = let f = at cell (here.is_alive cell.root) (is_of_sort here.program A_mutex cell) refl q in
+        subst (λ (x : Cell). is_of_sort here.program A_mutex x ≡ true) f.1 f.0
 
 pub both_true : (a b : Bool) → a ≡ true → b ≡ true → (a && b) ≡ true
 both_true true b e f = f

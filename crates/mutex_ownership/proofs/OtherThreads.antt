@@ -14,7 +14,7 @@ use Rattle.c_program.specs.Runs.{state_after}
 use Rattle.c_program.specs.Breaks.{request_in}
 use Rattle.c_program.specs.Counters.{IsUnaddressed, writes_local}
 use Rattle.c_program.specs.WellFormed.{IsWellFormed}
-use Rattle.c_program.specs.Paths.{Stands, stands_at}
+use Rattle.c_program.specs.Paths.{Stands}
 use Rattle.c_program.specs.Laws.{Finds, depth_after, Names as RequestNames}
 use Rattle.c_program.proofs.Asks.{EachAsk, from_each}
 use Rattle.c_program.proofs.Cells.{cell_same}
@@ -25,8 +25,6 @@ use Rattle.c_program.proofs.Named.{named}
 use Rattle.c_program.proofs.Stays.{others, origins}
 use Rattle.path_simulation.specs.Simulates.{LastStep, GoesOn, Simulates, EachIsFollowed, origin_in}
 use Rattle.path_simulation.proofs.Simulated.{simulated}
-use Rattle.pointer_targets.specs.Names.{Names}
-use Rattle.mutex_ownership.specs.Premises.{Premises, is_mutex}
 use Rattle.static_facts.specs.Outcomes.{Remembered}
 use Rattle.static_facts.specs.Depths.{Mark, marked, DepthStep, depths}
 use Rattle.mutex_ownership.specs.Owning.{level_of, depth_with_wait, HasFrame, HasOutcome, OutcomeAt, OutcomeIn, AgreesIn, Agrees}

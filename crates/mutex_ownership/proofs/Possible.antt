@@ -10,21 +10,23 @@ use Rattle.c_program.specs.WellFormed.{IsWellFormed}
 use Rattle.c_program.specs.Paths.{Offers, stands_at}
 use Rattle.path_simulation.specs.Tracks.{IsPossible}
 use Rattle.pointer_targets.specs.Names.{Names}
-use Rattle.mutex_ownership.specs.Premises.{Premises}
+use Rattle.pointer_targets.proofs.Told.{Told}
 use Rattle.static_facts.specs.Depths.{Mark, marked, depths, MayHold}
 use Rattle.mutex_ownership.specs.Owning.{level_of, depth_with_wait}
-use Rattle.mutex_ownership.specs.Laws.{IsMutexAt, IsOutside, EachDepthIsPossible}
+use Rattle.mutex_ownership.specs.Laws.{IsOutside, EachDepthIsPossible}
 use Rattle.mutex_ownership.proofs.Simulating.{followed}
+use Rattle.pointer_targets.specs.LibraryObjects.{IsObjectAt}
+use Rattle.c_program.specs.Faults.{A_mutex}
 
-module _ (program : Program) (well : IsWellFormed program) (names : Names) (premises : Premises program names) where
+module _ (program : Program) (well : IsWellFormed program) (names : Names) (premises : Told program names) where
   -- also inside a wait: with the level that the thread takes again
-  pub possible_with_wait : (c : Cell) (location : Location) → IsMutexAt program c location → (run : List Choice) → IsGoodRun program run
+  pub possible_with_wait : (c : Cell) (location : Location) → IsObjectAt program A_mutex c location → (run : List Choice) → IsGoodRun program run
       → (thread : ℕ) (control : Control) (frames : List Frame) (inside : Option Cell) (move : Move)
       → ((state_after program run).thread thread).stand ≡ Running control frames inside → Offers control move
       → MayHold program names location ((state_after program run).thread thread).origin (stands_at ((state_after program run).thread thread).origin control move)
           (min (depth_with_wait c (state_after program run) thread) 8)
   possible_with_wait c location at run good thread control frames inside move stands offers =
-      let f = followed program well names premises c location at.here at.of_mutex run good thread control frames inside stands in
+      let f = followed program well names premises c location at.here at.of_sort run good thread control frames inside stands in
       (f.state.outcome, subst (λ (d : ℕ). IsPossible program (depths program names location) ((state_after program run).thread thread).origin
           (stands_at ((state_after program run).thread thread).origin control move) (marked d f.state.outcome)) f.fulfils.depth (record {
         function = f.function;

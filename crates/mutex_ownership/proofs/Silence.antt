@@ -13,8 +13,8 @@ use Rattle.c_program.specs.Values.{Cell, Location, location_of}
 use Rattle.c_program.specs.Control.{Control, Move, Spot, Point}
 use Rattle.c_program.specs.Evaluation.{Here}
 use Rattle.c_program.specs.State.{State, Stand, Running, Frame, Life, Unmade, Live, Dead, Mutex, depth_of, here}
-use Rattle.c_program.specs.Requests.{Request, Locks, Tries_timed, Unlocks, Waits, Destroys, Retakes}
-use Rattle.c_program.specs.Faults.{given_up, locked, is_recursive, is_broken, if_any}
+use Rattle.c_program.specs.Requests.{Request, Locks, Tries_timed, Unlocks, Waits, Destroys, Retakes, mutex_type}
+use Rattle.c_program.specs.Faults.{given_up, locked, is_recursive, is_broken, if_any, A_mutex}
 use Rattle.c_program.specs.Step.{Choice}
 use Rattle.c_program.specs.Runs.{IsGoodRun, IsRun, state_after}
 use Rattle.c_program.specs.Breaks.{Breaks, request_by}
@@ -24,12 +24,18 @@ use Rattle.c_program.specs.Laws.{Names as RequestNames, IsRequestBy, NamesAt}
 use Rattle.c_program.proofs.Asking.{by_a_move}
 use Rattle.c_program.proofs.Cells.{and_true}
 use Rattle.pointer_targets.specs.Names.{Names}
-use Rattle.mutex_ownership.specs.Premises.{Premises, LeadsToMutex, is_mutex, MutexesAreStatic}
+use Rattle.pointer_targets.proofs.Told.{Told, ObjectsAreStatic}
+use Rattle.pointer_targets.specs.LibraryObjects.{LeadsToObject, is_of_sort}
 use Rattle.static_facts.specs.Depths.{MayHold}
-use Rattle.guideline_findings.specs.Ownership.{IsCandidate, MayOwn, gives_up, locks, destroys, IsUnlockedUnowned, IsLockedAgain, MayBePlain, IsDestroyedOwned, IsKeptAtEnd, Nowhere}
-use Rattle.mutex_ownership.specs.Laws.{IsMutexAt, EachDepthIsPossible, SilentOn22_17}
+use Rattle.guideline_findings.specs.Ownership.{MayOwn, gives_up, locks, destroys, IsUnlockedUnowned, IsLockedAgain, MayBePlain, IsDestroyedOwned, IsKeptAtEnd}
+use Rattle.mutex_ownership.specs.Laws.{EachDepthIsPossible}
 use Rattle.mutex_ownership.proofs.MutexAsks.{Leads, place_mutex}
 use Rattle.mutex_ownership.proofs.Possible.{possible}
+use Rattle.static_facts.specs.Candidates.{IsCandidate}
+
+-- no point and no location has the finding
+abbrev pub Nowhere : (List Spot → Point → Location → Type 0) → Type 0
+Nowhere Finding = (thread : List Spot) (point : Point) (location : Location) → Finding thread point location → ⊥
 
 -- ---- which request gives up or takes a mutex
 
@@ -57,11 +63,11 @@ module _ (here : Here) where
 
 -- ---- a thread stands before a call whose argument leads to a mutex
 
-module _ (program : Program) (well : IsWellFormed program) (names : Names) (premises : Premises program names) (static : MutexesAreStatic program) where
+module _ (program : Program) (well : IsWellFormed program) (names : Names) (premises : Told program names) (static : ObjectsAreStatic program) where
   pub record Stands_before (run : List Choice) (choice : Choice) (argument : ℕ) (m : Cell) (point : Point) : Type 0 where
-    pub leads : LeadsToMutex program run choice.thread point argument m
+    pub leads : LeadsToObject program mutex_type run choice.thread point argument m
     pub location : Location
-    pub candidate : IsCandidate program names point argument location
+    pub candidate : IsCandidate program names point argument A_mutex location
     pub depth : MayHold program names location ((state_after program run).thread choice.thread).origin point (min (depth_of choice.thread ((state_after program run).mutex m)) 8)
     pub here_is : location_of program m ≡ Some location
 
@@ -72,22 +78,22 @@ module _ (program : Program) (well : IsWellFormed program) (names : Names) (prem
   stands_before run good choice argument m control frames move s o l = record {
     leads = leads;
     location = found.0;
-    candidate = record { named = premises.may_name run choice.thread point argument m found.0 good leads found.1; cell = m; here = found.1; of_mutex = of_mutex };
-    depth = possible program well names premises m found.0 (record { here = found.1; of_mutex = of_mutex }) run good choice.thread control frames None move s o tt;
+    candidate = record { named = premises.may_name run choice.thread point A_mutex argument m found.0 good leads found.1; cell = m; here = found.1; of_sort = of_sort };
+    depth = possible program well names premises m found.0 (record { here = found.1; of_sort = of_sort }) run good choice.thread control frames None move s o tt;
     here_is = found.1;
   }
     where
       point : Point
       point = stands_at ((state_after program run).thread choice.thread).origin control move
 
-      leads : LeadsToMutex program run choice.thread point argument m
+      leads : LeadsToObject program mutex_type run choice.thread point argument m
       leads = record { control = control; frames = frames; move = move; call = l.call; into = l.into; expression = l.expression; stands = s; offers = o; here_is = refl; is_call = l.is_call; has = l.has; leads = l.leads }
 
       found : (location : Location) × (location_of program m ≡ Some location)
-      found = static run choice.thread point argument m good leads
+      found = static run choice.thread point A_mutex argument m good leads
 
-      of_mutex : is_mutex program m ≡ true
-      of_mutex = place_mutex (here program (state_after program run) choice.thread) l.expression m l.leads
+      of_sort : is_of_sort program A_mutex m ≡ true
+      of_sort = place_mutex (here program (state_after program run) choice.thread) l.expression m l.leads
 
   -- ---- Rule 22.17
 
@@ -130,6 +136,6 @@ module _ (program : Program) (well : IsWellFormed program) (names : Names) (prem
         go (Some x) s n = let e = n.1 in cc
     unowned none _ w z = cc
 
-  pub silent_17 : SilentOn22_17 program names
+  pub silent_17 : Nowhere (IsUnlockedUnowned program names) → (run : List Choice) → IsRun program run → Breaks R22_17 program run → ⊥
   silent_17 none [] r b = b
   silent_17 none (choice ∷ run) r b = unowned run r.0 choice none b.0 (by_a_move program (state_after program run) choice b.0 b.1) b.2

@@ -12,7 +12,7 @@ use Rattle.c_program.specs.Control.{Control, Run, In_first, In_second, Before_tu
 use Rattle.c_program.specs.Types.{is_zero}
 use Rattle.c_program.specs.State.{State, Mark, Stand, Running, Frame, Life, Unmade, Live, Dead, Mutex, depth_of, here}
 use Rattle.c_program.specs.Requests.{Request, Plain, Creates, Joins, Detaches, Inits, Locks, Tries, Tries_timed, Opens, Makes_key, Unlocks, Waits, Destroys, Retakes, Turn, Goes, Enters, Leaves, Exits, Ask, Asks}
-use Rattle.c_program.specs.Faults.{locked, is_recursive, is_broken, if_any}
+use Rattle.c_program.specs.Faults.{locked, is_recursive, is_broken, if_any, A_mutex}
 use Rattle.c_program.specs.Effects.{Sync, Makes, Marks, Finishes, finishes, if_done, marks, sync_of, sync_after}
 use Rattle.c_program.specs.Step.{Choice, asked_by}
 use Rattle.c_program.specs.Runs.{IsGoodRun, IsRun, state_after, Moment, moment_at}
@@ -28,17 +28,20 @@ use Rattle.c_program.proofs.Turns.{Fits}
 use Rattle.path_simulation.specs.Simulates.{LastStep}
 use Rattle.path_simulation.proofs.Plain.{is_reached}
 use Rattle.pointer_targets.specs.Names.{Names}
-use Rattle.mutex_ownership.specs.Premises.{Premises, LeadsToMutex, is_mutex, MutexesAreStatic}
+use Rattle.pointer_targets.proofs.Told.{Told, ObjectsAreStatic}
+use Rattle.pointer_targets.specs.LibraryObjects.{is_of_sort, IsObjectAt}
 use Rattle.static_facts.specs.Depths.{MayHold, depths, marked}
 use Rattle.mutex_ownership.specs.Owning.{level_of, depth_with_wait}
-use Rattle.guideline_findings.specs.Ownership.{IsCandidate, MayOwn, IsLockedAgain, MayBePlain, IsDestroyedOwned, IsKeptAtEnd, EndsAt, locks, Nowhere}
-use Rattle.mutex_ownership.specs.Laws.{IsMutexAt, SilentOn22_16, SilentOn22_18}
+use Rattle.guideline_findings.specs.Ownership.{MayOwn, IsLockedAgain, MayBePlain, IsDestroyedOwned, IsKeptAtEnd, EndsAt, locks}
+use Rattle.path_simulation.specs.Tracks.{IsPossible}
 use Rattle.mutex_ownership.proofs.MutexAsks.{Leads, place_mutex}
 use Rattle.mutex_ownership.proofs.Begun.{Begun, begun}
 use Rattle.mutex_ownership.proofs.Moments.{IsMoment, step_of, last_is, last_by}
 use Rattle.mutex_ownership.proofs.Possible.{possible, possible_with_wait}
 use Rattle.mutex_ownership.proofs.Remembering.{by_kind, sync_is, fits}
-use Rattle.mutex_ownership.proofs.Silence.{Stands_before, stands_before, lock_leads, timed_leads, destroy_leads}
+use Rattle.mutex_ownership.proofs.Silence.{Nowhere, Stands_before, stands_before, lock_leads, timed_leads, destroy_leads}
+use Rattle.static_facts.specs.Points.{IsReachable}
+use Rattle.static_facts.specs.Outcomes.{Remembered}
 
 some_depth : (d : ℕ) → (d == 0) ≡ false → 0 < min d 8
 some_depth d e = grind (arith, common_steps)
@@ -55,42 +58,44 @@ live_of t Dead e = absurd (cc)
 plain_of : (life : Life Mutex) (mutex : Mutex) → life ≡ Live mutex → is_recursive life ≡ false → mutex.kind.is_recursive ≡ false
 plain_of life mutex e f = subst (λ (l : Life Mutex). is_recursive l ≡ false) e f
 
-module _ (program : Program) (well : IsWellFormed program) (names : Names) (premises : Premises program names) (static : MutexesAreStatic program) where
+-- where a depth is possible, a path comes
+pub held_reachable : (program : Program) (names : Names) (mutex : Location) (thread : List Spot) (point : Point) (outcome : Option Remembered) {depth : ℕ}
+    → IsPossible program (depths program names mutex) thread point (marked depth outcome) → IsReachable program thread point
+held_reachable program names mutex thread point outcome h = record { function = h.function; leads = h.leads; reached = is_reached program (depths program names mutex) thread point (marked _ outcome) h }
+
+module _ (program : Program) (well : IsWellFormed program) (names : Names) (premises : Told program names) (static : ObjectsAreStatic program) where
   -- ---- the initialisation of a mutex
 
   module _ (m : Cell) (mutex : Mutex) (b : Begun program m mutex.kind) where
     begun_origin : List Spot
     begun_origin = ((state_after program b.run).thread b.thread).origin
 
-    begun_mutex : is_mutex program m ≡ true
+    begun_mutex : is_of_sort program A_mutex m ≡ true
     begun_mutex = place_mutex (here program (state_after program b.run) b.thread) b.leads.expression m b.leads.leads
 
     pub begun_location : (location : Location) × (location_of program m ≡ Some location)
-    begun_location = static b.run b.thread b.point 0 m b.good b.leads
+    begun_location = static b.run b.thread b.point A_mutex 0 m b.good b.leads
 
-    pub begun_at : IsMutexAt program m begun_location.0
-    begun_at = record { here = begun_location.1; of_mutex = begun_mutex }
+    pub begun_at : IsObjectAt program A_mutex m begun_location.0
+    begun_at = record { here = begun_location.1; of_sort = begun_mutex }
 
     may_be_plain : (location : Location) → location_of program m ≡ Some location → mutex.kind.is_recursive ≡ false → MayBePlain program names location
     unfolding begun_origin
     may_be_plain location l p = record {
       thread = ((state_after program b.run).thread b.thread).origin;
-      function = held.1.function;
       point = b.point;
+      reachable = subst (IsReachable program ((state_after program b.run).thread b.thread).origin) b.leads.here_is (held_reachable program names location _ _ held.0 held.1);
       expression = b.expression;
       kind = mutex.kind;
       into = b.into;
-      leads = held.1.leads;
-      reached = subst (λ (q : Point). IsReached program ((state_after program b.run).thread b.thread).origin held.1.function q) b.leads.here_is
-          (is_reached program (depths program names location) ((state_after program b.run).thread b.thread).origin _ (marked _ held.0) held.1);
       is_init = b.is_init;
-      candidate = record { named = premises.may_name b.run b.thread b.point 0 m location b.good b.leads l; cell = m; here = l; of_mutex = begun_mutex };
+      candidate = record { named = premises.may_name b.run b.thread b.point A_mutex 0 m location b.good b.leads l; cell = m; here = l; of_sort = begun_mutex };
       is_plain = p;
     }
       where
         held : MayHold program names location ((state_after program b.run).thread b.thread).origin (stands_at ((state_after program b.run).thread b.thread).origin b.leads.control b.leads.move)
             (min (depth_of b.thread ((state_after program b.run).mutex m)) 8)
-        held = possible program well names premises m location (record { here = l; of_mutex = begun_mutex }) b.run b.good b.thread b.leads.control b.leads.frames None b.leads.move b.leads.stands b.leads.offers tt
+        held = possible program well names premises m location (record { here = l; of_sort = begun_mutex }) b.run b.good b.thread b.leads.control b.leads.frames None b.leads.move b.leads.stands b.leads.offers tt
 
   -- ---- Rule 22.18
 
@@ -149,7 +154,7 @@ module _ (program : Program) (well : IsWellFormed program) (names : Names) (prem
             })
         go (Some x) s n = let e = n.1 in cc
 
-  pub silent_18 : SilentOn22_18 program names
+  pub silent_18 : Nowhere (IsLockedAgain program names) → (run : List Choice) → IsRun program run → Breaks R22_18 program run → ⊥
   silent_18 none [] r b = b
   silent_18 none (choice ∷ run) r b = locked_again run r.0 choice none b.0 (by_a_move program (state_after program run) choice b.0 b.1) b.2
 
@@ -253,9 +258,7 @@ module _ (program : Program) (well : IsWellFormed program) (names : Names) (prem
         let at = begun_at m live.0 b in
         none origin point (begun_location m live.0 b).0 (record {
           ends = ends_at;
-          cell = m;
-          here = at.here;
-          of_mutex = at.of_mutex;
+          of_mutex = record { cell = m; here = at.here; of_sort = at.of_sort };
           may_own = (min (depth_with_wait m start choice.thread) 8, (more _ _ z,
               possible_with_wait program well names premises m (begun_location m live.0 b).0 at run step.good choice.thread step.by.control step.by.frames step.by.inside step.move step.by.stands (choice.pair, step.by.offers)));
         })
@@ -264,7 +267,7 @@ module _ (program : Program) (well : IsWellFormed program) (names : Names) (prem
       → 0 < depth_of last.choice.thread ((state_after program last.earlier).mutex m) → ⊥
   at_end none last s e m z = kept_at_end last.choice last.earlier (step_of program last s) e none m z
 
-  pub silent_16 : SilentOn22_16 program names
+  pub silent_16 : Nowhere (IsKeptAtEnd program names) → Nowhere (IsDestroyedOwned program names) → (run : List Choice) → IsRun program run → Breaks R22_16 program run → ⊥
   silent_16 none_kept none_owned [] r b = b
   silent_16 none_kept none_owned (choice ∷ run) r (inl b) = owned_at_destruction run r.0 choice none_owned b.0 (by_a_move program (state_after program run) choice (Destroys b.0) b.1) b.2
   silent_16 none_kept none_owned (choice ∷ run) r (inr b) = let record { 0 = last; 1 = m; 2 = at; 3 = e; 4 = z } = b in

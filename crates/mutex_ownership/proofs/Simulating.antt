@@ -27,7 +27,8 @@ use Rattle.c_program.proofs.Stays.{others, origins}
 use Rattle.path_simulation.specs.Simulates.{LastStep, GoesOn, Simulates, EachIsFollowed, origin_in}
 use Rattle.path_simulation.proofs.Simulated.{simulated}
 use Rattle.pointer_targets.specs.Names.{Names}
-use Rattle.mutex_ownership.specs.Premises.{Premises, is_mutex}
+use Rattle.pointer_targets.proofs.Told.{Told}
+use Rattle.pointer_targets.specs.LibraryObjects.{is_of_sort}
 use Rattle.static_facts.specs.Outcomes.{Remembered}
 use Rattle.static_facts.specs.Depths.{Mark, marked, DepthStep, depths}
 use Rattle.mutex_ownership.specs.Owning.{level_of, depth_with_wait, HasFrame, HasOutcome, OutcomeAt, OutcomeIn, AgreesIn, Agrees}
@@ -37,6 +38,7 @@ use Rattle.mutex_ownership.proofs.MutexAsks.{WaitsBy, wait_asks, wait_named, Ret
 use Rattle.mutex_ownership.proofs.Remembering.{unwritten, top_is_among, sound, frames_own, sync_is, frame_among}
 use Rattle.mutex_ownership.proofs.OtherThreads.{kept_outcome}
 use Rattle.mutex_ownership.proofs.Agreeing.{goes_case, none_in}
+use Rattle.c_program.specs.Faults.{A_mutex}
 
 gt_differs : (n m : ℕ) → n < m → (m == n) ≡ false
 gt_differs n m l = grind (arith, common_steps)
@@ -76,8 +78,8 @@ suspends_by state (frame ∷ caller ∷ frames) (Leaves result) request d m e = 
 
 -- ---- the relation
 
-module _ (program : Program) (well : IsWellFormed program) (names : Names) (premises : Premises program names) (c : Cell) (location : Location)
-    (located : location_of program c ≡ Some location) (of_mutex : is_mutex program c ≡ true) where
+module _ (program : Program) (well : IsWellFormed program) (names : Names) (premises : Told program names) (c : Cell) (location : Location)
+    (located : location_of program c ≡ Some location) (of_sort : is_of_sort program A_mutex c ≡ true) where
   opens : (mark : Mark) × ((mark ≡ marked 0 None) × Agrees program c 0 [] mark)
   unfolding state_after opening
   opens = (marked 0 None, (refl, record { depth = refl; outcome = tt }))
@@ -213,7 +215,7 @@ module _ (program : Program) (well : IsWellFormed program) (names : Names) (prem
 
     moves_on : GoesOn step.effect.sync → (function : ℕ) → Stands program function step.by.control → (mark : Mark) → Agrees program c t run mark
         → (behind : Mark) × (DepthStep program names location (stands_at (origin_in program run t) step.by.control step.move) choice.pair mark behind × Agrees program c t (choice ∷ run) behind)
-    moves_on goes function stands mark a = goes_case program well names premises c location located of_mutex choice run step goes function stands mark a step.by.inside refl step.by.asks
+    moves_on goes function stands mark a = goes_case program well names premises c location located of_sort choice run step goes function stands mark a step.by.inside refl step.by.asks
 
   pub simulates : Simulates program (depths program names location) (Agrees program c)
   simulates = record {

@@ -11,37 +11,21 @@ use Rattle.c_program.specs.Happens.{Before, releases, takes, state_at}
 use Rattle.c_program.specs.Breaks.{Breaks, point_of}
 use Rattle.c_program.specs.Paths.{Offers, stands_at}
 use Rattle.pointer_targets.specs.Names.{Names}
-use Rattle.mutex_ownership.specs.Premises.{is_mutex}
+use Rattle.pointer_targets.specs.LibraryObjects.{IsObjectAt}
 use Rattle.static_facts.specs.Depths.{MayHold, IsSurelyHeld}
-use Rattle.guideline_findings.specs.Ownership.{IsUnlockedUnowned, IsLockedAgain, IsKeptAtEnd, IsDestroyedOwned, Nowhere}
+use Rattle.c_program.specs.Faults.{A_mutex}
 
--- a static mutex
-pub record IsMutexAt (program : Program) (c : Cell) (location : Location) : Type 0 where
-  pub here : location_of program c ≡ Some location
-  pub of_mutex : is_mutex program c ≡ true
-
--- ‹owners sound›: not inside a wait with this mutex, a running thread has of it a depth that, cut at 8, is possible at its point
+-- not inside a wait with this mutex, a running thread has of it a depth that, cut at 8, is possible at its point
 abbrev pub IsOutside : Cell → Option Cell → Type 0
 IsOutside c None = Unit {0}
 IsOutside c (Some m) = same_cell m c ≡ false
 
 abbrev pub EachDepthIsPossible : Program → Names → Type 0
-EachDepthIsPossible program names = (c : Cell) (location : Location) → IsMutexAt program c location → (run : List Choice) → IsGoodRun program run
+EachDepthIsPossible program names = (c : Cell) (location : Location) → IsObjectAt program A_mutex c location → (run : List Choice) → IsGoodRun program run
     → (thread : ℕ) (control : Control) (frames : List Frame) (inside : Option Cell) (move : Move)
     → ((state_after program run).thread thread).stand ≡ Running control frames inside → Offers control move → IsOutside c inside
     → MayHold program names location ((state_after program run).thread thread).origin (stands_at ((state_after program run).thread thread).origin control move)
         (min (depth_of thread ((state_after program run).mutex c)) 8)
-
--- silence of the three rules
-abbrev pub SilentOn22_17 : Program → Names → Type 0
-SilentOn22_17 program names = Nowhere (IsUnlockedUnowned program names) → (run : List Choice) → IsRun program run → Breaks R22_17 program run → ⊥
-
-abbrev pub SilentOn22_18 : Program → Names → Type 0
-SilentOn22_18 program names = Nowhere (IsLockedAgain program names) → (run : List Choice) → IsRun program run → Breaks R22_18 program run → ⊥
-
-abbrev pub SilentOn22_16 : Program → Names → Type 0
-SilentOn22_16 program names = Nowhere (IsKeptAtEnd program names) → Nowhere (IsDestroyedOwned program names)
-    → (run : List Choice) → IsRun program run → Breaks R22_16 program run → ⊥
 
 -- ---- between two ownerships by different threads stands a release by the first
 
@@ -70,9 +54,9 @@ IsHandedOver program = (c : Cell) (run : List Choice) → IsGoodRun program run 
     → (depth_of t ((state_after program run).mutex c) == 0) ≡ false
     → (u : ℕ) × ((i ≤ u) × (ReleasesAt program run c s u × ((l : ℕ) × ((u < l) × TakesAt program run c t l))))
 
--- ‹order sound›, by a mutex: two steps in different threads, at whose points one mutex is surely held
+-- two steps in different threads, at whose points one mutex is surely held
 abbrev pub HeldIsOrdered : Program → Names → Type 0
-HeldIsOrdered program names = (c : Cell) (location : Location) → IsMutexAt program c location → (run : List Choice) → IsGoodRun program run
+HeldIsOrdered program names = (c : Cell) (location : Location) → IsObjectAt program A_mutex c location → (run : List Choice) → IsGoodRun program run
     → (i j : ℕ) (first second : Moment) → moment_at program run i ≡ Some first → moment_at program run j ≡ Some second → i < j
     → first.choice.thread ≢ second.choice.thread
     → IsSurelyHeld program names location ((state_at program first).thread first.choice.thread).origin (point_of program first)
