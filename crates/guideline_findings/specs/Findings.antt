@@ -71,7 +71,7 @@ pub data Found (program : Program) (facts : Facts) : Guideline → Place → Sub
   kind : (t : List Spot) (p : Point) (m : Location) → LocksUntimed program facts t p m → Found program facts R21_26 (spot_place program p) (Named_location m) kinds.Kind None
   joined_again : (t : List Spot) (p : Point) (object : Location) → ReleasesAgain program facts t p object
       → Found program facts R22_11 (spot_place program p) (Named_location object) kinds.Again None
-  joined_outside : (t : List Spot) (p : Point) (object : Location) → ReleasesOutside program facts t p object
+  joined_outside : (t : List Spot) (p : Point) (object : Location) → ReleasesOutside program facts.names t p object
       → Found program facts R22_11 (spot_place program p) (Named_location object) kinds.Outside None
   touch : (action : ℕ) → IsTouch program action → Found program facts R22_12 (place_of program action) Nothing_named kinds.Access None
   automatic : (object : Object) → is_declared object ≡ true → HoldsLibrary program storage.Automatic object
@@ -82,13 +82,13 @@ pub data Found (program : Program) (facts : Facts) : Guideline → Place → Sub
   second : (rule : Guideline) (sort : Sort) → rule_of_sort sort ≡ Some rule → (t : List Spot) (p : Point) (location : Location) → MayBeSecond program facts t p sort location
       → Found program facts rule (spot_place program p) (Named_location location) kinds.Second None
   made_outside : (rule : Guideline) (sort : Sort) → rule_of_sort sort ≡ Some rule → (t : List Spot) (p : Point) (location : Location)
-      → IsOutside program facts t p Initialises sort location → Found program facts rule (spot_place program p) (Named_location location) kinds.Outside None
+      → IsOutside program facts.names t p Initialises sort location → Found program facts rule (spot_place program p) (Named_location location) kinds.Outside None
   dead : (sort : Sort) → HasLife sort → (t : List Spot) (p : Point) (location : Location) → MayBeDead program facts t p sort location
       → Found program facts R22_15 (spot_place program p) (Named_location location) kinds.Dead None
   busy : (sort : Sort) → HasLife sort → (p : Point) (location : Location) → MayBeBusy program facts p sort location
       → Found program facts R22_15 (spot_place program p) (Named_location location) kinds.Busy None
   destroyed_outside : (sort : Sort) → HasLife sort → (t : List Spot) (p : Point) (location : Location)
-      → IsOutside program facts t p Ends_life sort location → Found program facts R22_15 (spot_place program p) (Named_location location) kinds.Outside None
+      → IsOutside program facts.names t p Ends_life sort location → Found program facts R22_15 (spot_place program p) (Named_location location) kinds.Outside None
   kept_at_end : (t : List Spot) (p : Point) (m : Location) → IsReachable program t p → IsKeptAtEnd program facts.names t p m
       → Found program facts R22_16 (spot_place program p) (Named_location m) kinds.End None
   destroyed : (t : List Spot) (p : Point) (m : Location) → IsReachable program t p → IsDestroyedOwned program facts.names t p m

@@ -18,8 +18,7 @@ use Rattle.c_program.proofs.Named.{named}
 use Rattle.pointer_targets.specs.Names.{Names}
 use Rattle.mutex_ownership.proofs.Moments.{IsMoment, at_longer, GoodLast, good_last}
 use Rattle.mutex_ownership.proofs.MutexAsks.{RetakesBy, retakes_by}
-use Rattle.static_facts.specs.ObjectStates.{IsNoThread, is_of_sort}
-use Rattle.thread_states.specs.Premises.{Premises, ObjectsAreStatic}
+use Rattle.static_facts.specs.ObjectStates.{IsNoThread}
 use Rattle.thread_states.proofs.Accessing.{IsNamed, IsNamedAccess, found_access, named_accesses, typed_accesses, both_each}
 use Rattle.thread_states.proofs.Positions.{last_of}
 use Rattle.thread_states.proofs.Waits.{waits_live}
@@ -27,6 +26,8 @@ use Rattle.thread_states.proofs.Ending.{one_sort}
 use Rattle.thread_states.proofs.SilenceOfLives.{StandsBefore, stands_before}
 use Rattle.c_program.specs.Evaluation.{Here}
 use Rattle.c_program.specs.Laws.{Names as RequestNames}
+use Rattle.pointer_targets.specs.LibraryObjects.{is_of_sort}
+use Rattle.pointer_targets.proofs.Told.{Told, ObjectsAreStatic}
 
 or_none : (b : Bool) → (b || false) ≡ true → b ≡ true
 or_none true e = refl
@@ -44,7 +45,7 @@ and_left_off : (a b : Bool) → a ≡ false → (a && b) ≡ false
 and_left_off true b e = absurd (cc)
 and_left_off false b e = refl
 
-module _ (program : Program) (well : IsWellFormed program) (names : Names) (premises : Premises program names) (static : ObjectsAreStatic program) where
+module _ (program : Program) (well : IsWellFormed program) (names : Names) (premises : Told program names) (static : ObjectsAreStatic program) where
   -- ---- who accessed an object stood before a call that does
 
   pub record AccessedBy (run : List Choice) (thread : ℕ) (sort : Sort) (cell : Cell) : Type 0 where

@@ -14,16 +14,17 @@ use Rattle.c_program.specs.Evaluation.{Here, place_at}
 use Rattle.c_program.specs.Requests.{Request, Creates, Joins, Detaches, Inits, Locks, Tries, Tries_timed, Unlocks, Destroys, Opens, Signals, Waits, Retakes, Closes, Makes_key, Gets_key, Sets_key, Deletes_key}
 use Rattle.c_program.specs.Faults.{Sort, A_mutex, A_condition, A_key, A_thread, How, Initialises, Uses, Ends_life, Access, accesses_of}
 use Rattle.c_program.specs.Laws.{Names}
-use Rattle.thread_states.specs.Findings.{at_argument, accesses_in}
-use Rattle.static_facts.specs.ObjectStates.{IsNoThread, is_of_sort, type_of_sort}
+use Rattle.static_facts.specs.ObjectStates.{IsNoThread}
 use Rattle.thread_states.proofs.Asking.{Leads}
 use Rattle.thread_states.proofs.Simulating.{place_typed}
 use Rattle.c_program.specs.Counters.{arguments_of}
+use Rattle.pointer_targets.specs.LibraryObjects.{type_of_sort, is_of_sort}
+use Rattle.static_facts.specs.Candidates.{taken, objects_of}
 
 -- the access is by an argument of the action
 pub record IsNamed (here : Here) (action : Act) (how : How) (sort : Sort) (cell : Cell) : Type 0 where
   pub argument : ℕ
-  pub has : Contains (accesses_in action) (at_argument argument how sort)
+  pub has : Contains (objects_of action) (taken argument how sort)
   pub leads : Leads here action sort argument cell
 
 abbrev pub IsNamedAccess : Here → Act → Access → Type 0
@@ -43,7 +44,7 @@ found_access P test (x ∷ xs) p e = go (found_access P test xs p.1) (test x) re
     go rest false f e = rest e
 
 module _ (here : Here) where
-  to : (call : LibraryCall) (into : Option Local) (how : How) (sort : Sort) (argument : ℕ) (e : Expr) (c : Cell) → Contains (accesses_in (act.Library call into)) (at_argument argument how sort)
+  to : (call : LibraryCall) (into : Option Local) (how : How) (sort : Sort) (argument : ℕ) (e : Expr) (c : Cell) → Contains (objects_of (act.Library call into)) (taken argument how sort)
       → slice_get (arguments_of call) argument ≡ Some e → place_at here (type_of_sort sort) e ≡ Some c
       → IsNamed here (act.Library call into) how sort c
   to call into how sort argument e c h s p = record { argument = argument; has = h; leads = record { call = call; into = into; expression = e; is_call = refl; has = s; leads = p } }

@@ -21,8 +21,9 @@ use Rattle.c_program.proofs.Logic.{or_false}
 use Rattle.c_program.proofs.Asks.{EachAsk, none_each, one_each, with_each, meant_each}
 use Rattle.c_program.proofs.Onward.{kind_of, Goes_on}
 use Rattle.mutex_ownership.proofs.MutexAsks.{is_wait}
-use Rattle.static_facts.specs.ObjectStates.{Doing, Begins, Joins_it, Detaches_it, Ends_it, doing_of, result_of_call, type_of_sort}
+use Rattle.static_facts.specs.ObjectStates.{Doing, Begins, Joins_it, Detaches_it, Ends_it, doing_of, result_of_call}
 use Rattle.thread_states.specs.Seen.{use_by, when}
+use Rattle.pointer_targets.specs.LibraryObjects.{type_of_sort}
 
 -- an argument of the call leads to the object
 pub record Leads (here : Here) (action : Act) (sort : Sort) (argument : ℕ) (object : Cell) : Type 0 where

@@ -13,9 +13,9 @@ use Rattle.c_program.proofs.Stays.{origins}
 use Rattle.path_simulation.specs.Simulates.{LastStep}
 use Rattle.mutex_ownership.proofs.Later.{lt_differs, thread_made, made_grows}
 use Rattle.mutex_ownership.proofs.Moments.{step_of, moment_is, at_within, at_longer, GoodLast, good_last}
-use Rattle.static_facts.specs.Order.{thread_of}
 use Rattle.thread_states.specs.Laws.{origin_of}
 use Rattle.thread_states.proofs.Positions.{split, last_of, place, from_prefix}
+use Rattle.static_facts.specs.Points.{thread_of}
 
 -- the step at this position makes the thread
 pub record Birth (program : Program) (run : List Choice) (thread : ℕ) (origin : List Spot) : Type 0 where

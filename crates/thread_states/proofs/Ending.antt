@@ -16,11 +16,12 @@ use Rattle.c_program.specs.WellFormed.{IsWellFormed}
 use Rattle.c_program.specs.Tracks.{life_after}
 use Rattle.c_program.proofs.Cells.{and_true}
 use Rattle.mutex_ownership.proofs.Moments.{at_longer, at_within, good_last}
-use Rattle.static_facts.specs.ObjectStates.{IsNoThread, Doing, Begins, Joins_it, Detaches_it, Ends_it, is_of_sort, type_of_sort}
+use Rattle.static_facts.specs.ObjectStates.{IsNoThread, Doing, Begins, Joins_it, Detaches_it, Ends_it}
 use Rattle.thread_states.specs.Seen.{use_by, use_with}
 use Rattle.thread_states.proofs.Positions.{last_of, at_cases, same_moment}
 use Rattle.thread_states.proofs.Changing.{change_by, life_opens}
 use Rattle.thread_states.proofs.Lifetimes.{life, life_last}
+use Rattle.pointer_targets.specs.LibraryObjects.{type_of_sort, is_of_sort}
 
 -- ---- an object is of one sort
 

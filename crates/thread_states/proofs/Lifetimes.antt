@@ -4,7 +4,7 @@ use Rattle.c_program.specs.declared.program.Program.{Program}
 use Rattle.c_program.specs.Values.{Cell, Location}
 use Rattle.c_program.specs.Control.{Control, Move, Spot, Point}
 use Rattle.c_program.specs.State.{Not_made, Running, Frame}
-use Rattle.c_program.specs.Faults.{Sort}
+use Rattle.c_program.specs.Faults.{Sort, A_mutex, A_condition, A_key, A_thread}
 use Rattle.c_program.specs.Step.{Choice}
 use Rattle.c_program.specs.Runs.{IsGoodRun, state_after, Moment, moment_at}
 use Rattle.c_program.specs.Breaks.{point_of}
@@ -15,12 +15,10 @@ use Rattle.c_program.proofs.Counters.{sound_run}
 use Rattle.path_simulation.specs.Simulates.{LastStep, origin_in}
 use Rattle.pointer_targets.specs.Names.{Names}
 use Rattle.mutex_ownership.proofs.Moments.{IsMoment, step_of, moment_is, at_within, GoodLast, good_last}
-use Rattle.static_facts.specs.ObjectStates.{IsNoThread, ObjectState, Is_unmade, Is_live, Is_dead, Doing, Begins, Joins_it, Detaches_it, Ends_it, changed_by}
-use Rattle.thread_states.specs.Premises.{Premises}
+use Rattle.static_facts.specs.ObjectStates.{IsNoThread, ObjectState, Is_unmade, Is_live, Is_dead, Doing, Begins, Joins_it, Detaches_it, Ends_it, changed_by, Is_joined, Is_detached, IsStateOf}
 use Rattle.thread_states.specs.Seen.{use_with, seen}
-use Rattle.static_facts.specs.Order.{thread_of}
 use Rattle.static_facts.specs.Lives.{MayLive, in_initial, in_created}
-use Rattle.thread_states.specs.Laws.{IsObjectAt, origin_of}
+use Rattle.thread_states.specs.Laws.{origin_of}
 use Rattle.thread_states.proofs.Positions.{split, last_of, place, lasting}
 use Rattle.thread_states.proofs.Does.{seen_own, seen_other}
 use Rattle.thread_states.proofs.Births.{Birth, birth, initial_origin}
@@ -28,6 +26,9 @@ use Rattle.thread_states.proofs.Stopping.{point_is, moment_point}
 use Rattle.thread_states.proofs.Ordering.{what_is_seen}
 use Rattle.thread_states.proofs.Changing.{IsLife, change_by, life_opens, life_step, is_life}
 use Rattle.static_facts.specs.ObjectPaths.{MayBeAlong}
+use Rattle.pointer_targets.specs.LibraryObjects.{IsObjectAt}
+use Rattle.pointer_targets.proofs.Told.{Told}
+use Rattle.static_facts.specs.Points.{thread_of}
 
 -- no step of another thread does this with the object
 abbrev pub IsAlone : Program → Sort → Cell → Doing → Type 0
@@ -43,6 +44,30 @@ runs_made program well run good thread control frames inside s = elim (split thr
   where
     unlike : Not_made ≡ Running control frames inside → ⊥
     unlike e = cc
+
+-- the states of what is no thread object
+abbrev pub IsLifeState : ObjectState → Type 0
+IsLifeState Is_joined = ⊥
+IsLifeState Is_detached = ⊥
+IsLifeState _ = Unit {0}
+
+of_life : (sort : Sort) → IsNoThread sort → (S : ObjectState) → IsLifeState S → IsStateOf sort S
+of_life A_thread n S l = absurd n
+of_life A_mutex n Is_unmade l = tt
+of_life A_mutex n Is_live l = tt
+of_life A_mutex n Is_dead l = tt
+of_life A_mutex n Is_joined l = l
+of_life A_mutex n Is_detached l = l
+of_life A_condition n Is_unmade l = tt
+of_life A_condition n Is_live l = tt
+of_life A_condition n Is_dead l = tt
+of_life A_condition n Is_joined l = l
+of_life A_condition n Is_detached l = l
+of_life A_key n Is_unmade l = tt
+of_life A_key n Is_live l = tt
+of_life A_key n Is_dead l = tt
+of_life A_key n Is_joined l = l
+of_life A_key n Is_detached l = l
 
 module _ (program : Program) (well : IsWellFormed program) (sort : Sort) (no_thread : IsNoThread sort) (cell : Cell) where
   abbrev pub life : List Choice → ℕ
@@ -142,14 +167,14 @@ module _ (program : Program) (well : IsWellFormed program) (sort : Sort) (no_thr
 
   -- ---- what is unmade in a run may be unmade at the points of all threads
 
-  module _ (names : Names) (premises : Premises program names) (location : Location) (at : IsObjectAt program sort cell location) where
+  module _ (names : Names) (premises : Told program names) (location : Location) (at : IsObjectAt program sort cell location) where
     abbrev pub MayBeHere : List Choice → ℕ → Control → Move → ObjectState → Type 0
     MayBeHere run thread control move state = MayLive program names sort location (origin_in program run thread) (stands_at (origin_in program run thread) control move) state
 
-    pub initial_lives : (S : ObjectState) (run : List Choice) → IsGoodRun program run → (control : Control) (frames : List Frame) (inside : Option Cell) (move : Move)
+    pub initial_lives : (S : ObjectState) → IsLifeState S → (run : List Choice) → IsGoodRun program run → (control : Control) (frames : List Frame) (inside : Option Cell) (move : Move)
         → ((state_after program run).thread 0).stand ≡ Running control frames inside → Offers control move → seen program sort cell run ≡ S → MayBeHere run 0 control move S
-    initial_lives S run r control frames inside move s o e = subst (λ (l : List Spot). MayLive program names sort location l (stands_at l control move) S) (sym (initial_origin program well run r))
-        (in_initial (stands_at [] control move) S (subst (λ (x : ObjectState). MayBeAlong program names sort location (stands_at [] control move) x) e
+    initial_lives S life_like run r control frames inside move s o e = subst (λ (l : List Spot). MayLive program names sort location l (stands_at l control move) S) (sym (initial_origin program well run r))
+        (in_initial (stands_at [] control move) S (of_life sort no_thread S life_like) (subst (λ (x : ObjectState). MayBeAlong program names sort location (stands_at [] control move) x) e
         (what_is_seen program well names premises sort cell location at run r control frames inside move s o)))
 
     abbrev Below : List Choice → Type 0
@@ -161,7 +186,7 @@ module _ (program : Program) (well : IsWellFormed program) (sort : Sort) (no_thr
         → ((state_after program run).thread thread).stand ≡ Running control frames inside → Offers control move → life run ≡ 0 → MayBeHere run thread control move Is_unmade
     one_life run r below thread control frames inside move s o e = elim (split 0 thread) [
       | inr z ↦ let t : thread ≡ 0 = omega arith in subst (λ k. MayBeHere run k control move Is_unmade) (sym t)
-          (initial_lives Is_unmade run r control frames inside move (ap (λ k. ((state_after program run).thread k).stand) (sym t) ∙ s) o (unmade_seen run r e))
+          (initial_lives Is_unmade tt run r control frames inside move (ap (λ k. ((state_after program run).thread k).stand) (sym t) ∙ s) o (unmade_seen run r e))
       | inl p ↦ by_birth (birth program well run thread r p (runs_made program well run r thread control frames inside s))
     ]
       where

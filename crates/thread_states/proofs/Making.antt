@@ -29,11 +29,11 @@ use Rattle.mutex_ownership.proofs.MutexAsks.{RetakesBy, retakes_by, cell_equal}
 use Rattle.mutex_ownership.proofs.Moments.{at_longer, GoodLast, good_last}
 use Rattle.mutex_ownership.proofs.Remembering.{sync_is}
 use Rattle.static_facts.specs.ObjectStates.{Begins, Joins_it}
-use Rattle.thread_states.specs.Premises.{LeadsToObject}
 use Rattle.thread_states.specs.Seen.{when, use_by, use_with}
-use Rattle.static_facts.specs.ThreadStates.{is_creation}
 use Rattle.thread_states.proofs.Asking.{Leads}
 use Rattle.thread_states.proofs.Positions.{last_of}
+use Rattle.pointer_targets.specs.LibraryObjects.{type_of_sort, LeadsToObject}
+use Rattle.static_facts.specs.Points.{is_creation}
 
 -- ---- joins
 
@@ -198,7 +198,7 @@ module _ (program : Program) (well : IsWellFormed program) (choice : Choice) (ru
     pub creates_here : is_creation action ≡ true
     creates_here = named_here.1
 
-    pub making_leads : LeadsToObject program run t (stands_at (origin_in program run t) step.by.control step.move) A_thread 0 object
+    pub making_leads : LeadsToObject program (type_of_sort A_thread) run t (stands_at (origin_in program run t) step.by.control step.move) 0 object
     making_leads = let l = named_here.0 in record {
       control = step.by.control;
       frames = step.by.frames;

@@ -18,20 +18,23 @@ use Rattle.path_simulation.specs.Tracks.{IsPossible, Comes}
 use Rattle.path_simulation.specs.Simulates.{Follows}
 use Rattle.pointer_targets.specs.Names.{Names, IsExact}
 use Rattle.mutex_ownership.proofs.Moments.{IsMoment, step_of, moment_is, at_within, GoodLast, good_last}
-use Rattle.static_facts.specs.ObjectStates.{ObjectState, is_of_sort, type_of_sort}
-use Rattle.thread_states.specs.Premises.{Premises, LeadsToObject}
+use Rattle.static_facts.specs.ObjectStates.{ObjectState}
 use Rattle.static_facts.specs.ObjectPaths.{Mark, Follows_none, At, states, MayBeAlong}
 use Rattle.thread_states.specs.Seen.{seen}
 use Rattle.thread_states.specs.Following.{Agrees}
-use Rattle.static_facts.specs.ThreadStates.{IsCreationPoint, along}
-use Rattle.static_facts.specs.Order.{IsPlain, thread_of, IsSettled, Ordered, in_initial, first_initial, second_initial, in_one, apart}
+use Rattle.static_facts.specs.ThreadStates.{along}
+use Rattle.static_facts.specs.Order.{IsPlain, IsSettled, Ordered, in_initial, first_initial, second_initial, in_one, apart}
 use Rattle.thread_states.specs.Laws.{WhatIsSeenIsPossible, origin_of, OrderedHappenInOrder, OrderedEitherWay}
+use Rattle.thread_states.proofs.Alive.{seen_alive}
 use Rattle.thread_states.proofs.Simulating.{followed, place_typed}
 use Rattle.thread_states.proofs.Positions.{split, same_moment, place, from_prefix, to_prefix, lasting}
 use Rattle.thread_states.proofs.Births.{initial_origin, initial_moves, initial_moment, BornBefore, born_before}
 use Rattle.thread_states.proofs.Stopping.{point_is, IsNoWait, moment_point, stands_initial, passed_once}
 use Rattle.thread_states.proofs.Making.{JoinsOne, joins_one, making_leads, making_uses, creates_here, Made, held_made}
 use Rattle.thread_states.proofs.Joining.{not_yet, Joining, joined}
+use Rattle.pointer_targets.specs.LibraryObjects.{type_of_sort, is_of_sort, LeadsToObject}
+use Rattle.pointer_targets.proofs.Told.{Told}
+use Rattle.static_facts.specs.Points.{IsCreationPoint, thread_of}
 
 running_ended : (control : Control) (frames : List Frame) (inside : Option Cell) (s : Stand) → s ≡ Running control frames inside → has_ended s ≡ true → ⊥
 running_ended control frames inside (Running c f i) e h = cc
@@ -40,7 +43,7 @@ running_ended control frames inside Not_made e h = cc
 
 -- ---- what is seen is possible
 
-pub what_is_seen : (program : Program) → IsWellFormed program → (names : Names) → Premises program names → WhatIsSeenIsPossible program names
+pub what_is_seen : (program : Program) → IsWellFormed program → (names : Names) → Told program names → WhatIsSeenIsPossible program names
 what_is_seen program well names premises sort object location at run good control frames inside move stands offers =
     go f.state f.comes f.fulfils
   where
@@ -98,12 +101,12 @@ pub makes_is : (sync : Sync) (made thread : ℕ) → made_thread sync made ≡ S
 makes_is (Makes object f) made thread e = (object, (f, refl))
 makes_is _ made thread e = absurd (cc)
 
-module _ (program : Program) (well : IsWellFormed program) (names : Names) (premises : Premises program names) where
+module _ (program : Program) (well : IsWellFormed program) (names : Names) (premises : Told program names) where
   -- ---- a step that makes a thread
 
   -- it stands at a creation point whose argument leads to the object
-  leads_at : (m : Moment) → (s : IsMoment program m) → (c : Cell) (f : ℕ) → m.effect.sync ≡ Makes c f → LeadsToObject program m.earlier m.choice.thread (point_of program m) A_thread 0 c
-  leads_at m s c f e = subst (λ (p : Point). LeadsToObject program m.earlier m.choice.thread p A_thread 0 c) (sym (point_is program m s))
+  leads_at : (m : Moment) → (s : IsMoment program m) → (c : Cell) (f : ℕ) → m.effect.sync ≡ Makes c f → LeadsToObject program (type_of_sort A_thread) m.earlier m.choice.thread (point_of program m) 0 c
+  leads_at m s c f e = subst (λ (p : Point). LeadsToObject program (type_of_sort A_thread) m.earlier m.choice.thread p 0 c) (sym (point_is program m s))
       (making_leads program well m.choice m.earlier (step_of program m s) c f e)
 
   is_of_thread : (m : Moment) → (s : IsMoment program m) → (c : Cell) (f : ℕ) → m.effect.sync ≡ Makes c f → is_of_sort program A_thread c ≡ true
@@ -112,7 +115,7 @@ module _ (program : Program) (well : IsWellFormed program) (names : Names) (prem
   is_located : (m : Moment) → (s : IsMoment program m) → (c : Cell) (f : ℕ) → m.effect.sync ≡ Makes c f → (creation : Point) (object : Location) → point_of program m ≡ creation
       → IsExact names creation 0 object → location_of program c ≡ Some object
   is_located m s c f e creation object p x = premises.exact m.earlier m.choice.thread creation A_thread 0 c object s.good
-      (subst (λ (p : Point). LeadsToObject program m.earlier m.choice.thread p A_thread 0 c) p (leads_at m s c f e)) x
+      (subst (λ (p : Point). LeadsToObject program (type_of_sort A_thread) m.earlier m.choice.thread p 0 c) p (leads_at m s c f e)) x
 
   module _ (run : List Choice) (good : IsGoodRun program run) where
     creates_at : (i : ℕ) (m : Moment) → moment_at program run i ≡ Some m → (c : Cell) (f : ℕ) → m.effect.sync ≡ Makes c f → IsCreationPoint program (origin_of program m) (point_of program m)
@@ -157,7 +160,7 @@ module _ (program : Program) (well : IsWellFormed program) (names : Names) (prem
       → IsSettled program names object (stands_at [] control move) → (position : ℕ) (birth : Moment) → moment_at program run position ≡ Some birth
       → (thread : ℕ) → made_thread birth.effect.sync (state_at program birth).made ≡ Some thread → point_of program birth ≡ creation → JoinedIn run thread
   joined_in run good control frames inside move stands offers creation object plain sets position birth a thread makes at_creation =
-      elim (sets (seen program A_thread c run) (along (stands_at [] control move) (seen program A_thread c run) possible)) [
+      elim (sets (seen program A_thread c run) (along (stands_at [] control move) (seen program A_thread c run) (seen_alive program c run) possible)) [
         | inl none ↦ absurd (not_yet program A_thread c run good position birth none a
             (stands_initial program well run position birth creation good a plain.point.is_point at_creation)
             (making_uses program well birth.choice birth.earlier (step_of program birth born) c making.1.0 making.1.1))

@@ -11,9 +11,9 @@ use Rattle.c_program.specs.WellFormed.{IsWellFormed}
 use Rattle.c_program.specs.Paths.{Offers, stands_at}
 use Rattle.path_simulation.proofs.Plain.{is_reached}
 use Rattle.mutex_ownership.proofs.Moments.{IsMoment, last_moment}
-use Rattle.thread_states.specs.Findings.{IsReachable}
 use Rattle.thread_states.specs.Laws.{origin_of}
 use Rattle.thread_states.proofs.Stopping.{plain, led, point_is}
+use Rattle.static_facts.specs.Points.{IsReachable}
 
 module _ (program : Program) (well : IsWellFormed program) where
   pub reachable : (run : List Choice) → IsGoodRun program run → (thread : ℕ) (control : Control) (frames : List Frame) (inside : Option Cell) (move : Move)

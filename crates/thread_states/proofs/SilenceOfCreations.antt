@@ -1,23 +1,24 @@
 -- Where Directive 5.3 has no finding, no run breaks it.
 use Rattle.std.proofs.Common.{◌≡◌, ◌≢◌, ◌⊎◌, inl, inr, refl, subst, Bool, true, false, ℕ, ◌<◌, ◌==◌, List, [], ◌∷◌, length, Some, eqb-true, eq-eqb}
+use Rattle.misra_base.specs.declared.guideline.Guideline.TheVariants.{D5_3}
 use Rattle.c_program.specs.declared.program.Program.{Program}
 use Rattle.c_program.specs.Values.{Cell}
 use Rattle.c_program.specs.Control.{Spot, Point}
 use Rattle.c_program.specs.Syntax.{act_at}
 use Rattle.c_program.specs.Effects.{Sync, Makes}
 use Rattle.c_program.specs.Step.{Choice}
-use Rattle.c_program.specs.Runs.{IsGoodRun, Moment, moment_at}
-use Rattle.c_program.specs.Breaks.{creates, point_of}
+use Rattle.c_program.specs.Runs.{IsGoodRun, IsRun, Moment, moment_at}
+use Rattle.c_program.specs.Breaks.{Breaks, creates, point_of}
 use Rattle.c_program.specs.WellFormed.{IsWellFormed}
 use Rattle.mutex_ownership.proofs.Moments.{step_of, moment_is, last_by, at_within, at_longer}
-use Rattle.static_facts.specs.ThreadStates.{is_creation}
-use Rattle.thread_states.specs.Findings.{CreatesOutside, CreatesRepeatedly, IsReachable}
-use Rattle.thread_states.specs.Laws.{origin_of, SilentOn5_3}
+use Rattle.guideline_findings.specs.Threads.{CreatesOutside, CreatesRepeatedly}
+use Rattle.thread_states.specs.Laws.{origin_of}
 use Rattle.thread_states.proofs.Births.{initial_moves, initial_moment}
 use Rattle.thread_states.proofs.Stopping.{moment_point, no_second, IsNoWait}
 use Rattle.thread_states.proofs.Making.{creates_here}
 use Rattle.thread_states.proofs.Reaching.{moment_reachable, good_now}
 use Rattle.c_program.specs.Paths.{IsPoint}
+use Rattle.static_facts.specs.Points.{IsReachable, is_creation}
 
 makes_by : (sync : Sync) → creates sync ≡ true → (c : Cell) × ((f : ℕ) × (sync ≡ Makes c f))
 makes_by (Makes object f) e = (object, (f, refl))
@@ -39,7 +40,7 @@ module _ (program : Program) (well : IsWellFormed program) (none_outside : (thre
     by_initial i m a e n = none_outside (origin_of program m) (point_of program m) (record {
       reachable = moment_reachable program well m (moment_is program run i m good a);
       creates = creation i m a e;
-      outside = λ o. n (initial_moves program well run i m good a o);
+      elsewhere = λ o. n (initial_moves program well run i m good a o);
     })
 
     initial_one : (i : ℕ) (m : Moment) → moment_at program run i ≡ Some m → creates m.effect.sync ≡ true → m.choice.thread ≡ 0
@@ -60,7 +61,8 @@ module _ (program : Program) (well : IsWellFormed program) (none_outside : (thre
           cyclic = c;
         })) l a b p refl (no_wait m.effect.sync e)
 
-pub silent_5_3 : (program : Program) → IsWellFormed program → SilentOn5_3 program
+pub silent_5_3 : (program : Program) → IsWellFormed program → ((thread : List Spot) (point : Point) → CreatesOutside program thread point → ⊥) → ((point : Point) → CreatesRepeatedly program point → ⊥)
+    → (run : List Choice) → IsRun program run → Breaks D5_3 program run → ⊥
 silent_5_3 program well none_outside none_repeated [] r b = b
 silent_5_3 program well none_outside none_repeated (choice ∷ run) r b = go b.0 b.1 b.2.0 b.2.1
   where

@@ -2,6 +2,7 @@
 use Rattle.std.proofs.Common.{◌≡◌, ◌⊎◌, inl, inr, refl, sym, subst, ap, ◌∙◌, Bool, true, false, not, ◌||◌, ◌&&◌, ◌==◌, ℕ, zero, suc, ◌<◌, ℤ, List, [], ◌∷◌, Option, Some, None, eqb-true, eq-eqb, arith}
 use Rattle.std.proofs.lemmas.Grind.{common_steps}
 use Rattle.std.specs.List.{list_any}
+use Rattle.misra_base.specs.declared.guideline.Guideline.TheVariants.{R22_15}
 use Rattle.c_program.specs.declared.program.Program.{Program}
 use Rattle.c_program.specs.Syntax.{act_at}
 use Rattle.c_program.specs.Values.{Cell, Location, location_of}
@@ -10,9 +11,9 @@ use Rattle.c_program.specs.State.{State, Running, Frame, Life, Unmade, Live, Dea
 use Rattle.c_program.specs.Requests.{Request, Creates, Joins, Detaches, Inits, Locks, Tries, Tries_timed, Unlocks, Destroys, Opens, Signals, Waits, Retakes, Closes, Makes_key, Gets_key, Sets_key, Deletes_key}
 use Rattle.c_program.specs.Faults.{Sort, A_mutex, A_condition, A_key, A_thread, How, Initialises, Uses, Ends_life, Access, accesses_of, some_below, is_busy, is_destruction, too_late, is_too_late}
 use Rattle.c_program.specs.Step.{Choice}
-use Rattle.c_program.specs.Runs.{IsGoodRun, state_after}
+use Rattle.c_program.specs.Runs.{IsGoodRun, IsRun, state_after}
 use Rattle.c_program.specs.Happens.{state_at}
-use Rattle.c_program.specs.Breaks.{point_of}
+use Rattle.c_program.specs.Breaks.{Breaks, point_of}
 use Rattle.c_program.specs.WellFormed.{IsWellFormed}
 use Rattle.c_program.specs.Paths.{Offers, stands_at}
 use Rattle.c_program.specs.Tracks.{life_number, life_of}
@@ -24,11 +25,10 @@ use Rattle.path_simulation.specs.Simulates.{origin_in}
 use Rattle.pointer_targets.specs.Names.{Names}
 use Rattle.mutex_ownership.proofs.Moments.{IsMoment, step_of, moment_is}
 use Rattle.static_facts.specs.ObjectStates.{IsNoThread, Is_dead, Ends_it}
-use Rattle.thread_states.specs.Premises.{Premises, ObjectsAreStatic}
-use Rattle.static_facts.specs.Order.{thread_of}
 use Rattle.static_facts.specs.Lives.{MayLive, in_created}
-use Rattle.thread_states.specs.Findings.{AccessesObject, IsInitialisation, IsSettledThread, EndedOutside, Nowhere}
-use Rattle.thread_states.specs.Laws.{HasNoEndFinding, SilentOn22_15, DeadIsPossible, origin_of}
+use Rattle.guideline_findings.specs.Lives.{Accesses, IsUseOrEnd}
+use Rattle.thread_states.specs.Laws.{LivesHere, origin_of}
+use Rattle.thread_states.proofs.Unfound.{IsSettledThread, NoneEndedOutside, NoEnd}
 use Rattle.thread_states.proofs.Accessing.{IsNamed, IsNamedAccess, EachAccess, found_access, named_accesses, both_each}
 use Rattle.thread_states.proofs.Positions.{to_prefix, from_prefix, lasting}
 use Rattle.thread_states.proofs.Births.{Birth, birth, initial_origin, initial_moment, initial_moves, same_point, born_before}
@@ -39,19 +39,22 @@ use Rattle.thread_states.proofs.Waits.{true_false, waits_live}
 use Rattle.thread_states.proofs.Ending.{EndsAfter, ended_some, ended_since, ends_behind}
 use Rattle.thread_states.proofs.SilenceOfLives.{StandsBefore, stands_before, does_before, created_thread}
 use Rattle.thread_states.proofs.Accessed.{AccessedBy, accessed_by}
+use Rattle.pointer_targets.specs.LibraryObjects.{IsObjectAt}
+use Rattle.pointer_targets.proofs.Told.{Told, ObjectsAreStatic}
+use Rattle.static_facts.specs.Points.{thread_of}
 
 -- what is too late is dead, and no initialisation
-late_life : {A : Type 0} (how : How) (life : Life A) → is_too_late how life ≡ true → (IsInitialisation how → ⊥) × (life_number life ≡ 2)
+late_life : {A : Type 0} (how : How) (life : Life A) → is_too_late how life ≡ true → (IsUseOrEnd how) × (life_number life ≡ 2)
 late_life Initialises life e = absurd (cc)
-late_life Uses Dead e = ((λ x. x), refl)
+late_life Uses Dead e = (tt, refl)
 late_life Uses Unmade e = absurd (cc)
 late_life Uses (Live a) e = absurd (cc)
-late_life Ends_life Dead e = ((λ x. x), refl)
+late_life Ends_life Dead e = (tt, refl)
 late_life Ends_life Unmade e = absurd (cc)
 late_life Ends_life (Live a) e = absurd (cc)
 
 late_number : (state : State) (how : How) (sort : Sort) (cell : Cell) → too_late state (record { how = how; sort = sort; cell = cell }) ≡ true
-    → IsNoThread sort × ((IsInitialisation how → ⊥) × (life_of state sort cell ≡ 2))
+    → IsNoThread sort × ((IsUseOrEnd how) × (life_of state sort cell ≡ 2))
 late_number state how A_mutex cell e = (tt, late_life how (state.mutex cell) e)
 late_number state how A_condition cell e = (tt, late_life how (state.condition cell) e)
 late_number state how A_key cell e = (tt, late_life how (state.key cell) e)
@@ -82,23 +85,25 @@ busy_by state thread cell e = let k = below_has state.made _ e in
 positive : (n : ℕ) → (n == 0) ≡ false → 0 < n
 positive n e = grind (arith, common_steps)
 
-module _ (program : Program) (well : IsWellFormed program) (names : Names) (premises : Premises program names) (static : ObjectsAreStatic program) where
+module _ (program : Program) (well : IsWellFormed program) (names : Names) (premises : Told program names) (static : ObjectsAreStatic program) where
   -- ---- no finding
 
   -- the initial thread alone ends objects
-  ended_alone : Nowhere (EndedOutside program names) → (sort : Sort) → IsNoThread sort → (cell : Cell) → IsAlone program sort cell Ends_it
+  ended_alone : NoneEndedOutside program names → (sort : Sort) → IsNoThread sort → (cell : Cell) → IsAlone program sort cell Ends_it
   ended_alone none sort n cell choice run step z u = let b = does_before program well names premises static sort n cell Ends_it choice run step u in
-      none (origin_in program run choice.thread) (stands_at (origin_in program run choice.thread) step.by.control step.move) b.location (record {
-        sort = sort;
-        access = b.access;
-        outside = created_thread program well run step.good choice.thread step.by.control step.by.frames step.by.inside step.by.stands z;
+      none sort n (origin_in program run choice.thread) (stands_at (origin_in program run choice.thread) step.by.control step.move) b.location (record {
+        accesses = b.access;
+        elsewhere = created_thread program well run step.good choice.thread step.by.control step.by.frames step.by.inside step.by.stands z;
       })
 
-  pub dead_possible : DeadIsPossible program names
-  dead_possible sort n none object location at run good control frames inside move s o e = initial_lives program well sort n object names premises location at Is_dead run good control frames inside move s o
+  pub dead_possible : (sort : Sort) → IsNoThread sort → NoneEndedOutside program names → (object : Cell) (location : Location) → IsObjectAt program sort object location
+      → (run : List Choice) → IsGoodRun program run → (control : Control) (frames : List Frame) (inside : Option Cell) (move : Move)
+      → ((state_after program run).thread 0).stand ≡ Running control frames inside → Offers control move
+      → life_of (state_after program run) sort object ≡ 2 → LivesHere program names sort location run 0 control move Is_dead
+  dead_possible sort n none object location at run good control frames inside move s o e = initial_lives program well sort n object names premises location at Is_dead tt run good control frames inside move s o
       (dead_seen program well sort n object (ended_alone none sort n object) run good e)
 
-  module _ (none : HasNoEndFinding program names) where
+  module _ (none : NoEnd program names) where
     alone : (sort : Sort) → IsNoThread sort → (cell : Cell) → IsAlone program sort cell Ends_it
     alone = ended_alone none.outside
 
@@ -124,18 +129,14 @@ module _ (program : Program) (well : IsWellFormed program) (names : Names) (prem
       -- ---- a destruction of what another thread needs
 
       busy_end : how ≡ Ends_life → thread ≡ 0 → BusyBy (state_after program run) thread cell → ⊥
-      busy_end h z k = none.busy (stands_at [] control move) b.location (record {
-        sort = sort;
-        ends = subst (λ (l : List Spot). AccessesObject program names l (stands_at l control move) Ends_life sort b.location) initial
-            (subst (λ (x : How). AccessesObject program names origin point x sort b.location) h b.access);
-        thread = origin_of program a.moment;
-        created = λ o. true_false (k.other == thread) (eq-eqb k.other thread (sym a.by ∙ initial_moves program well run a.position a.moment good a.at o ∙ sym z)) k.apart;
-        other = stands_at (origin_of program a.moment) a.is.by.control a.moment.move;
-        how = a.how;
-        access = subst (λ (l : Location). AccessesObject program names (origin_of program a.moment) (stands_at (origin_of program a.moment) a.is.by.control a.moment.move) a.how sort l)
-            (one_location a.stands.location a.stands.at.here) a.stands.access;
-        unsettled = settled_ends;
-      })
+      busy_end h z k = none.busy sort no_thread (stands_at [] control move) b.location
+        (subst (λ (l : List Spot). Accesses program names l (stands_at l control move) Ends_life sort b.location) initial
+            (subst (λ (x : How). Accesses program names origin point x sort b.location) h b.access))
+        (origin_of program a.moment) (λ o. true_false (k.other == thread) (eq-eqb k.other thread (sym a.by ∙ initial_moves program well run a.position a.moment good a.at o ∙ sym z)) k.apart)
+        (stands_at (origin_of program a.moment) a.is.by.control a.moment.move) a.how
+        (subst (λ (l : Location). Accesses program names (origin_of program a.moment) (stands_at (origin_of program a.moment) a.is.by.control a.moment.move) a.how sort l)
+            (one_location a.stands.location a.stands.at.here) a.stands.access)
+        settled_ends
         where
           a : AccessedBy program well names premises static run k.other sort cell
           a = accessed_by program well names premises static sort no_thread cell b.at.of_sort run good k.other k.accessed
@@ -144,8 +145,8 @@ module _ (program : Program) (well : IsWellFormed program) (names : Names) (prem
           initial = ap (λ n. origin_in program run n) z ∙ initial_origin program well run good
 
           settled_ends : IsSettledThread program names (origin_of program a.moment) (stands_at [] control move) → ⊥
-          settled_ends s = let born = born_before program well run a.position a.moment s.creation good a.at s.is in
-              let j = joined_in program well names premises run good control frames None move (ap (λ n. ((state_after program run).thread n).stand) (sym z) ∙ stands) offers s.creation s.object s.plain s.settled
+          settled_ends s = let born = born_before program well run a.position a.moment s.is_plain.creation good a.at s.is_plain.is in
+              let j = joined_in program well names premises run good control frames None move (ap (λ n. ((state_after program run).thread n).stand) (sym z) ∙ stands) offers s.is_plain.creation s.object s.is_plain.plain s.settled
               born.position born.moment born.at a.moment.choice.thread born.makes born.point in
               true_false (has_ended ((state_after program run).thread k.other).stand)
               (subst (λ n. has_ended ((state_after program run).thread n).stand ≡ true) a.by
@@ -176,14 +177,14 @@ module _ (program : Program) (well : IsWellFormed program) (names : Names) (prem
         not_settled : IsSettledThread program names origin (stands_at [] d.by.control x.moment.move) → ⊥
         not_settled s = go late
           where
-            at_creation : point_of program birth.moment ≡ s.creation
-            at_creation = same_point program well (point_of program birth.moment) s.creation (sym birth.point ∙ s.is)
+            at_creation : point_of program birth.moment ≡ s.is_plain.creation
+            at_creation = same_point program well (point_of program birth.moment) s.is_plain.creation (sym birth.point ∙ s.is_plain.is)
 
             go : (birth.position < x.position) ⊎ ((birth.moment.choice.thread == 0) ≡ false) → ⊥
             go (inr e) = true_false (birth.moment.choice.thread == 0)
-                (eq-eqb birth.moment.choice.thread 0 (stands_initial program well run birth.position birth.moment s.creation good birth.at s.plain.point.is_point at_creation)) e
+                (eq-eqb birth.moment.choice.thread 0 (stands_initial program well run birth.position birth.moment s.is_plain.creation good birth.at s.is_plain.plain.point.is_point at_creation)) e
             go (inl l) = let j = joined_in program well names premises x.moment.earlier d.good d.by.control d.by.frames d.by.inside x.moment.move
-                (ap (λ n. ((state_at program x.moment).thread n).stand) (sym by_initial) ∙ d.by.stands) (x.moment.choice.pair, d.by.offers) s.creation s.object s.plain s.settled
+                (ap (λ n. ((state_at program x.moment).thread n).stand) (sym by_initial) ∙ d.by.stands) (x.moment.choice.pair, d.by.offers) s.is_plain.creation s.object s.is_plain.plain s.settled
                 birth.position birth.moment (to_prefix program run x.position birth.position x.moment birth.moment good x.at l birth.at) thread birth.makes at_creation in
                 true_false (has_ended ((state_after program run).thread thread).stand)
                 (lasting program (λ run. has_ended ((state_after program run).thread thread).stand ≡ true) (ended_keeps program well thread) run j.position j.moment good
@@ -191,23 +192,16 @@ module _ (program : Program) (well : IsWellFormed program) (names : Names) (prem
                 running_now
 
         needed : ⊥
-        needed = none.busy (stands_at [] d.by.control x.moment.move) b.location (record {
-          sort = sort;
-          ends = subst (λ (l : Location). AccessesObject program names [] (stands_at [] d.by.control x.moment.move) Ends_life sort l) (one_location ends_at.location ends_at.at.here)
-              (subst (λ (l : List Spot). AccessesObject program names l (stands_at l d.by.control x.moment.move) Ends_life sort ends_at.location) initial_end ends_at.access);
-          thread = origin;
-          created = created_thread program well run good thread control frames None stands created;
-          other = point;
-          how = how;
-          access = b.access;
-          unsettled = not_settled;
-        })
+        needed = none.busy sort no_thread (stands_at [] d.by.control x.moment.move) b.location
+          (subst (λ (l : Location). Accesses program names [] (stands_at [] d.by.control x.moment.move) Ends_life sort l) (one_location ends_at.location ends_at.at.here)
+              (subst (λ (l : List Spot). Accesses program names l (stands_at l d.by.control x.moment.move) Ends_life sort ends_at.location) initial_end ends_at.access))
+          origin (created_thread program well run good thread control frames None stands created) point how b.access not_settled
 
-      dead_use : (IsInitialisation how → ⊥) → life program well sort no_thread cell run ≡ 2 → ⊥
+      dead_use : (IsUseOrEnd how) → life program well sort no_thread cell run ≡ 2 → ⊥
       dead_use start dead = by_thread (thread == 0) refl
         where
           found : MayLive program names sort b.location origin point Is_dead → ⊥
-          found m = none.dead origin point b.location (record { how = how; no_start = start; sort = sort; access = b.access; may_be = m })
+          found m = none.dead sort no_thread how start origin point b.location b.access m
 
           by_birth : (thread == 0) ≡ false → Birth program run thread origin → ⊥
           by_birth e birth = go (birth.moment.choice.thread == 0) refl
@@ -222,7 +216,7 @@ module _ (program : Program) (well : IsWellFormed program) (names : Names) (prem
                   (subst (λ (p : Point). MayLive program names sort b.location (origin_of program birth.moment) p Is_dead) (sym (point_is program birth.moment m))
                   (subst (λ n. MayLive program names sort b.location (origin_in program birth.moment.earlier n) (stands_at (origin_in program birth.moment.earlier n) m.by.control birth.moment.move) Is_dead)
                   (sym (eqb-true birth.moment.choice.thread 0 z))
-                  (initial_lives program well sort no_thread cell names premises b.location b.at Is_dead birth.moment.earlier m.good m.by.control m.by.frames m.by.inside birth.moment.move
+                  (initial_lives program well sort no_thread cell names premises b.location b.at Is_dead tt birth.moment.earlier m.good m.by.control m.by.frames m.by.inside birth.moment.move
                   (ap (λ n. ((state_at program birth.moment).thread n).stand) (sym (eqb-true birth.moment.choice.thread 0 z)) ∙ m.by.stands) (birth.moment.choice.pair, m.by.offers)
                   (dead_seen program well sort no_thread cell (alone sort no_thread cell) birth.moment.earlier m.good l))))))
 
@@ -239,7 +233,7 @@ module _ (program : Program) (well : IsWellFormed program) (names : Names) (prem
           by_thread : (c : Bool) → (thread == 0) ≡ c → ⊥
           by_thread true e = let z = eqb-true thread 0 e in
               found (subst (λ n. MayLive program names sort b.location (origin_in program run n) (stands_at (origin_in program run n) control move) Is_dead) (sym z)
-              (initial_lives program well sort no_thread cell names premises b.location b.at Is_dead run good control frames None move (ap (λ n. ((state_after program run).thread n).stand) (sym z) ∙ stands) offers
+              (initial_lives program well sort no_thread cell names premises b.location b.at Is_dead tt run good control frames None move (ap (λ n. ((state_after program run).thread n).stand) (sym z) ∙ stands) offers
               (dead_seen program well sort no_thread cell (alone sort no_thread cell) run good dead)))
           by_thread false e = by_birth e (birth program well run thread good (positive thread e) (runs_made program well run good thread control frames None stands))
 
@@ -303,10 +297,9 @@ module _ (program : Program) (well : IsWellFormed program) (names : Names) (prem
           ends : (c : Bool) → (thread == 0) ≡ c → (nt : IsNoThread sort) → is_destruction how ≡ true → StandsBefore program well names premises static run thread control move how sort cell
               → BusyBy (state_after program run) thread cell → ⊥
           ends true z nt d b k = busy_end run good thread control frames move s o how sort nt cell b (is_end how d) (eqb-true thread 0 z) k
-          ends false z nt d b k = none.outside (origin_in program run thread) (stands_at (origin_in program run thread) control move) b.location (record {
-            sort = sort;
-            access = subst (λ (x : How). AccessesObject program names (origin_in program run thread) (stands_at (origin_in program run thread) control move) x sort b.location) (is_end how d) b.access;
-            outside = created_thread program well run good thread control frames None s z;
+          ends false z nt d b k = none.outside sort nt (origin_in program run thread) (stands_at (origin_in program run thread) control move) b.location (record {
+            accesses = subst (λ (x : How). Accesses program names (origin_in program run thread) (stands_at (origin_in program run thread) control move) x sort b.location) (is_end how d) b.access;
+            elsewhere = created_thread program well run good thread control frames None s z;
           })
 
       -- the second step of a wait finds its mutex live
@@ -333,6 +326,6 @@ module _ (program : Program) (well : IsWellFormed program) (names : Names) (prem
         go (Some m) s n = retaken run good choice.thread w.control w.frames m n.0 s
             (subst (λ (q : Request). list_any (Breaks_it (state_after program run) choice.thread) (accesses_of q) ≡ true) n.1 e)
 
-  pub silent_15 : SilentOn22_15 program names
+  pub silent_15 : NoEnd program names → (run : List Choice) → IsRun program run → Breaks R22_15 program run → ⊥
   silent_15 none [] r b = b
   silent_15 none (choice ∷ run) r b = in_time none run r.0 choice b.0 (by_a_move program (state_after program run) choice b.0 b.1) b.2

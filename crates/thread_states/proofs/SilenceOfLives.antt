@@ -1,6 +1,7 @@
 -- Where Rules 22.14 and 22.20 have no finding, no run breaks them.
 use Rattle.std.proofs.Common.{◌≡◌, ◌≢◌, ◌⊎◌, inl, inr, refl, sym, subst, ap, ◌∙◌, Bool, true, false, not, ◌||◌, ◌&&◌, ◌==◌, ℕ, ℤ, List, [], ◌∷◌, Option, Some, None, eqb-true, eq-eqb}
 use Rattle.std.specs.List.{list_any}
+use Rattle.misra_base.specs.declared.guideline.Guideline.TheVariants.{R22_14, R22_20}
 use Rattle.c_program.specs.declared.action.Act.{Act}
 use Rattle.c_program.specs.declared.program.Program.{Program}
 use Rattle.c_program.specs.Syntax.{act_at}
@@ -12,8 +13,8 @@ use Rattle.c_program.specs.Requests.{Request, Retakes, Asks, asked, Turn}
 use Rattle.c_program.specs.Faults.{Sort, A_mutex, A_condition, A_key, A_thread, How, Initialises, Uses, Ends_life, accesses_of, is_key, out_of_turn, is_out_of_turn}
 use Rattle.c_program.specs.Effects.{Resumes, sync_of, sync_after}
 use Rattle.c_program.specs.Step.{Choice, asked_by}
-use Rattle.c_program.specs.Runs.{IsGoodRun, state_after}
-use Rattle.c_program.specs.Breaks.{request_in}
+use Rattle.c_program.specs.Runs.{IsGoodRun, IsRun, state_after}
+use Rattle.c_program.specs.Breaks.{Breaks, request_in}
 use Rattle.c_program.specs.WellFormed.{IsWellFormed}
 use Rattle.c_program.specs.Paths.{Offers, stands_at}
 use Rattle.c_program.specs.Tracks.{life_number, life_of}
@@ -26,12 +27,12 @@ use Rattle.path_simulation.specs.Simulates.{LastStep, origin_in}
 use Rattle.pointer_targets.specs.Names.{Names}
 use Rattle.mutex_ownership.proofs.MutexAsks.{RetakesBy, retakes_by}
 use Rattle.mutex_ownership.proofs.Remembering.{sync_is}
-use Rattle.static_facts.specs.ObjectStates.{IsNoThread, Is_live, Doing, Begins, type_of_sort}
-use Rattle.thread_states.specs.Premises.{Premises, ObjectsAreStatic, LeadsToObject}
+use Rattle.static_facts.specs.ObjectStates.{IsNoThread, Is_live, Doing, Begins}
 use Rattle.thread_states.specs.Seen.{use_with}
 use Rattle.static_facts.specs.Lives.{MayLive}
-use Rattle.thread_states.specs.Findings.{AccessesObject, IsInitialisation, BegunOutside, Nowhere}
-use Rattle.thread_states.specs.Laws.{IsObjectAt, HasNoLifeFinding, SilentOn22_14, SilentOn22_20, UnmadeIsPossible, LiveIsPossible}
+use Rattle.guideline_findings.specs.Lives.{Accesses, IsUseOrEnd}
+use Rattle.thread_states.specs.Laws.{UnmadeIsPossible, LivesHere}
+use Rattle.thread_states.proofs.Unfound.{NoneBegunOutside, NoLife}
 use Rattle.thread_states.proofs.Accessing.{IsNamed, IsNamedAccess, EachAccess, found_access, named_accesses}
 use Rattle.thread_states.proofs.Births.{initial_thread}
 use Rattle.thread_states.proofs.Simulating.{place_typed}
@@ -39,16 +40,18 @@ use Rattle.thread_states.proofs.Reaching.{reachable}
 use Rattle.thread_states.proofs.Changing.{UsesBy, uses_by, how_of, access_of_sync, agrees, one_access}
 use Rattle.thread_states.proofs.Lifetimes.{IsAlone, runs_made, initial_lives, unmade_lives, live_seen}
 use Rattle.thread_states.proofs.Waits.{true_false, waits_live}
+use Rattle.pointer_targets.specs.LibraryObjects.{type_of_sort, IsObjectAt, LeadsToObject}
+use Rattle.pointer_targets.proofs.Told.{Told, ObjectsAreStatic}
 
 -- what is used out of turn is unmade, or live where it is begun
-by_life : {A : Type 0} (how : How) (life : Life A) → is_out_of_turn how life ≡ true → ((IsInitialisation how → ⊥) × (life_number life ≡ 0)) ⊎ ((how ≡ Initialises) × (life_number life ≡ 1))
+by_life : {A : Type 0} (how : How) (life : Life A) → is_out_of_turn how life ≡ true → ((IsUseOrEnd how) × (life_number life ≡ 0)) ⊎ ((how ≡ Initialises) × (life_number life ≡ 1))
 by_life Initialises (Live a) e = inr (refl, refl)
 by_life Initialises Unmade e = absurd (cc)
 by_life Initialises Dead e = absurd (cc)
-by_life Uses Unmade e = inl ((λ x. x), refl)
+by_life Uses Unmade e = inl (tt, refl)
 by_life Uses (Live a) e = absurd (cc)
 by_life Uses Dead e = absurd (cc)
-by_life Ends_life Unmade e = inl ((λ x. x), refl)
+by_life Ends_life Unmade e = inl (tt, refl)
 by_life Ends_life (Live a) e = absurd (cc)
 by_life Ends_life Dead e = absurd (cc)
 
@@ -58,16 +61,16 @@ module _ (program : Program) (well : IsWellFormed program) where
   created_thread run good thread control frames inside s n o = true_false (thread == 0)
       (eq-eqb thread 0 (initial_thread program well run thread good (runs_made program well run good thread control frames inside s) o)) n
 
-  pub unmade_possible : (names : Names) → Premises program names → UnmadeIsPossible program names
+  pub unmade_possible : (names : Names) → Told program names → UnmadeIsPossible program names
   unmade_possible names premises sort n object location at run good thread control frames inside move s o e = unmade_lives program well sort n object names premises location at run good thread control frames inside move s o e
 
-module _ (program : Program) (well : IsWellFormed program) (names : Names) (premises : Premises program names) (static : ObjectsAreStatic program) where
+module _ (program : Program) (well : IsWellFormed program) (names : Names) (premises : Told program names) (static : ObjectsAreStatic program) where
   -- ---- a thread stands before a call that accesses an object
 
   pub record StandsBefore (run : List Choice) (thread : ℕ) (control : Control) (move : Move) (how : How) (sort : Sort) (cell : Cell) : Type 0 where
     pub location : Location
     pub at : IsObjectAt program sort cell location
-    pub access : AccessesObject program names (origin_in program run thread) (stands_at (origin_in program run thread) control move) how sort location
+    pub access : Accesses program names (origin_in program run thread) (stands_at (origin_in program run thread) control move) how sort location
 
   pub stands_before : (run : List Choice) → IsGoodRun program run → (thread : ℕ) (control : Control) (frames : List Frame) (move : Move)
       → ((state_after program run).thread thread).stand ≡ Running control frames None → Offers control move → (how : How) (sort : Sort) (cell : Cell)
@@ -77,16 +80,14 @@ module _ (program : Program) (well : IsWellFormed program) (names : Names) (prem
     at = at;
     access = record {
       reachable = reachable program well run good thread control frames None move s o;
-      argument = n.argument;
-      has = n.has;
-      candidate = record { named = premises.may_name run thread point sort n.argument cell found.0 good leads found.1; is = record { cell = cell; here = at.here; of_sort = at.of_sort } };
+      takes = record { argument = n.argument; takes = n.has; candidate = record { named = premises.may_name run thread point sort n.argument cell found.0 good leads found.1; cell = cell; here = at.here; of_sort = at.of_sort } };
     };
   }
     where
       point : Point
       point = stands_at (origin_in program run thread) control move
 
-      leads : LeadsToObject program run thread point sort n.argument cell
+      leads : LeadsToObject program (type_of_sort sort) run thread point n.argument cell
       leads = let l = n.leads in record {
         control = control;
         frames = frames;
@@ -168,27 +169,28 @@ module _ (program : Program) (well : IsWellFormed program) (names : Names) (prem
   rule_is false A_thread e = refl
 
   out_number : (state : State) (how : How) (sort : Sort) (cell : Cell) → out_of_turn state (record { how = how; sort = sort; cell = cell }) ≡ true
-      → IsNoThread sort × (((IsInitialisation how → ⊥) × (life_of state sort cell ≡ 0)) ⊎ ((how ≡ Initialises) × (life_of state sort cell ≡ 1)))
+      → IsNoThread sort × (((IsUseOrEnd how) × (life_of state sort cell ≡ 0)) ⊎ ((how ≡ Initialises) × (life_of state sort cell ≡ 1)))
   out_number state how A_mutex cell e = (tt, by_life how (state.mutex cell) e)
   out_number state how A_condition cell e = (tt, by_life how (state.condition cell) e)
   out_number state how A_key cell e = (tt, by_life how (state.key cell) e)
   out_number state how A_thread cell e = absurd (cc)
 
   -- the initial thread alone begins objects
-  begun_alone : (keys : Bool) → Nowhere (BegunOutside program names keys) → (sort : Sort) → IsNoThread sort → is_key sort ≡ keys → (cell : Cell) → IsAlone program sort cell Begins
+  begun_alone : (keys : Bool) → NoneBegunOutside program names keys → (sort : Sort) → IsNoThread sort → is_key sort ≡ keys → (cell : Cell) → IsAlone program sort cell Begins
   begun_alone keys none sort n k cell choice run step z u = let b = does_before sort n cell Begins choice run step u in
-      none (origin_in program run choice.thread) (stands_at (origin_in program run choice.thread) step.by.control step.move) b.location (record {
-        sort = sort;
-        of_rule = k;
-        access = b.access;
-        outside = created_thread program well run step.good choice.thread step.by.control step.by.frames step.by.inside step.by.stands z;
+      none sort n k (origin_in program run choice.thread) (stands_at (origin_in program run choice.thread) step.by.control step.move) b.location (record {
+        accesses = b.access;
+        elsewhere = created_thread program well run step.good choice.thread step.by.control step.by.frames step.by.inside step.by.stands z;
       })
 
-  pub live_possible : LiveIsPossible program names
-  live_possible sort n none object location at run good control frames inside move s o e = initial_lives program well sort n object names premises location at Is_live run good control frames inside move s o
-      (live_seen program well sort n object (begun_alone (is_key sort) none sort n refl object) run good e)
+  pub live_possible : (keys : Bool) → NoneBegunOutside program names keys → (sort : Sort) → IsNoThread sort → is_key sort ≡ keys → (object : Cell) (location : Location) → IsObjectAt program sort object location
+      → (run : List Choice) → IsGoodRun program run → (control : Control) (frames : List Frame) (inside : Option Cell) (move : Move)
+      → ((state_after program run).thread 0).stand ≡ Running control frames inside → Offers control move
+      → life_of (state_after program run) sort object ≡ 1 → LivesHere program names sort location run 0 control move Is_live
+  live_possible keys none sort n k object location at run good control frames inside move s o e = initial_lives program well sort n object names premises location at Is_live tt run good control frames inside move s o
+      (live_seen program well sort n object (begun_alone keys none sort n k object) run good e)
 
-  module _ (keys : Bool) (none : HasNoLifeFinding program names keys) where
+  module _ (keys : Bool) (none : NoLife program names keys) where
     alone : (sort : Sort) → IsNoThread sort → is_key sort ≡ keys → (cell : Cell) → IsAlone program sort cell Begins
     alone = begun_alone keys none.outside
 
@@ -208,31 +210,20 @@ module _ (program : Program) (well : IsWellFormed program) (names : Names) (prem
         point = stands_at (origin_in program run thread) control move
 
         second : how ≡ Initialises → life_of (state_after program run) sort cell ≡ 1 → (z : Bool) → (thread == 0) ≡ z → ⊥
-        second h l false z = none.outside (origin_in program run thread) point b.location (record {
-          sort = sort;
-          of_rule = k;
-          access = subst (λ (x : How). AccessesObject program names (origin_in program run thread) point x sort b.location) h b.access;
-          outside = created_thread program well run good thread control frames None s z;
+        second h l false z = none.outside sort no_thread k (origin_in program run thread) point b.location (record {
+          accesses = subst (λ (x : How). Accesses program names (origin_in program run thread) point x sort b.location) h b.access;
+          elsewhere = created_thread program well run good thread control frames None s z;
         })
-        second h l true z = none.second (origin_in program run thread) point b.location (record {
-          sort = sort;
-          of_rule = k;
-          access = subst (λ (x : How). AccessesObject program names (origin_in program run thread) point x sort b.location) h b.access;
-          may_be = subst (λ n. MayLive program names sort b.location (origin_in program run n) (stands_at (origin_in program run n) control move) Is_live) (sym (eqb-true thread 0 z))
-              (initial_lives program well sort no_thread cell names premises b.location b.at Is_live run good control frames None move
+        second h l true z = none.second sort no_thread k (origin_in program run thread) point b.location
+            (subst (λ (x : How). Accesses program names (origin_in program run thread) point x sort b.location) h b.access)
+            (subst (λ n. MayLive program names sort b.location (origin_in program run n) (stands_at (origin_in program run n) control move) Is_live) (sym (eqb-true thread 0 z))
+              (initial_lives program well sort no_thread cell names premises b.location b.at Is_live tt run good control frames None move
               (ap (λ n. ((state_after program run).thread n).stand) (sym (eqb-true thread 0 z)) ∙ s) o
-              (live_seen program well sort no_thread cell (alone sort no_thread k cell) run good l));
-        })
+              (live_seen program well sort no_thread cell (alone sort no_thread k cell) run good l)))
 
-        go : ((IsInitialisation how → ⊥) × (life_of (state_after program run) sort cell ≡ 0)) ⊎ ((how ≡ Initialises) × (life_of (state_after program run) sort cell ≡ 1)) → ⊥
-        go (inl u) = none.before (origin_in program run thread) point b.location (record {
-          how = how;
-          no_start = u.0;
-          sort = sort;
-          of_rule = k;
-          access = b.access;
-          may_be = unmade_lives program well sort no_thread cell names premises b.location b.at run good thread control frames None move s o u.1;
-        })
+        go : ((IsUseOrEnd how) × (life_of (state_after program run) sort cell ≡ 0)) ⊎ ((how ≡ Initialises) × (life_of (state_after program run) sort cell ≡ 1)) → ⊥
+        go (inl u) = none.before sort no_thread k how u.0 (origin_in program run thread) point b.location b.access
+            (unmade_lives program well sort no_thread cell names premises b.location b.at run good thread control frames None move s o u.1)
         go (inr l) = second l.0 l.1 (thread == 0) refl
 
     -- the second step of a wait finds its mutex live
@@ -264,10 +255,10 @@ module _ (program : Program) (well : IsWellFormed program) (names : Names) (prem
         go (Some m) s n = retaken run good choice.thread w.control w.frames m n.0 s
             (subst (λ (q : Request). list_any (λ access. of_rule keys access.sort && out_of_turn (state_after program run) access) (accesses_of q) ≡ true) n.1 e)
 
-  pub silent_14 : SilentOn22_14 program names
+  pub silent_14 : NoLife program names false → (run : List Choice) → IsRun program run → Breaks R22_14 program run → ⊥
   silent_14 none [] r b = b
   silent_14 none (choice ∷ run) r b = in_turn false none run r.0 choice b.0 (by_a_move program (state_after program run) choice b.0 b.1) b.2
 
-  pub silent_20 : SilentOn22_20 program names
+  pub silent_20 : NoLife program names true → (run : List Choice) → IsRun program run → Breaks R22_20 program run → ⊥
   silent_20 none [] r b = b
   silent_20 none (choice ∷ run) r b = in_turn true none run r.0 choice b.0 (by_a_move program (state_after program run) choice b.0 b.1) b.2

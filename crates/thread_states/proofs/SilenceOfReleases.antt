@@ -2,6 +2,7 @@
 use Rattle.std.proofs.Common.{◌≡◌, ◌≢◌, ◌⊎◌, inl, inr, refl, sym, subst, ap, ◌∙◌, Bool, true, false, ◌==◌, ℕ, ℤ, List, [], ◌∷◌, Option, Some, None, eqb-true}
 use Rattle.std.specs.Prelude.{slice_get}
 use Rattle.c_program.specs.declared.expression.Expr.{Expr}
+use Rattle.misra_base.specs.declared.guideline.Guideline.TheVariants.{R22_11}
 use Rattle.c_program.specs.declared.action.Local.{Local}
 use Rattle.c_program.specs.declared.action.LibraryCall.{LibraryCall}
 use Rattle.c_program.specs.declared.action.LibraryCall.TheVariants as lib
@@ -17,8 +18,8 @@ use Rattle.c_program.specs.Requests.{Request, Creates, Joins, Detaches, Inits, L
 use Rattle.c_program.specs.Faults.{A_thread, Access, accesses_of, is_marked, target_of, if_any}
 use Rattle.c_program.specs.Effects.{Sync, Resumes, Effect, effect_of, sync_of, sync_after, Makes, Marks}
 use Rattle.c_program.specs.Step.{Choice, asked_by}
-use Rattle.c_program.specs.Runs.{IsGoodRun, state_after}
-use Rattle.c_program.specs.Breaks.{request_in}
+use Rattle.c_program.specs.Runs.{IsGoodRun, IsRun, state_after}
+use Rattle.c_program.specs.Breaks.{Breaks, request_in}
 use Rattle.c_program.specs.WellFormed.{IsWellFormed}
 use Rattle.c_program.specs.Paths.{Offers, stands_at}
 use Rattle.c_program.specs.Laws.{IsRequestBy, NamesAt, Names as RequestNames, accesses_object}
@@ -31,12 +32,12 @@ use Rattle.path_simulation.specs.Simulates.{LastStep, origin_in}
 use Rattle.pointer_targets.specs.Names.{Names}
 use Rattle.mutex_ownership.proofs.MutexAsks.{RetakesBy, retakes_by}
 use Rattle.mutex_ownership.proofs.Remembering.{sync_is}
-use Rattle.static_facts.specs.ObjectStates.{ObjectState, Is_joined, Is_detached, Doing, is_of_sort, type_of_sort}
-use Rattle.thread_states.specs.Premises.{Premises, ObjectsAreStatic, LeadsToObject}
+use Rattle.static_facts.specs.ObjectStates.{ObjectState, Is_joined, Is_detached, Doing, IsStateOf}
 use Rattle.thread_states.specs.Seen.{when, use_by, use_with, mark_use}
-use Rattle.static_facts.specs.ThreadStates.{is_creation, MayBe, along, made_outside}
-use Rattle.thread_states.specs.Findings.{releases_thread, ReleasesThread}
-use Rattle.thread_states.specs.Laws.{IsObjectAt, state_of_mark, state_held, state_of_object, NoneOutside, ThreadStatesArePossible, HasNoReleaseFinding, SilentOn22_11}
+use Rattle.static_facts.specs.ThreadStates.{MayBe, along, made_outside}
+use Rattle.thread_states.specs.Laws.{state_of_mark, state_held, state_of_object, NoneOutside, ThreadStatesArePossible}
+use Rattle.guideline_findings.specs.Threads.{Releases}
+use Rattle.thread_states.proofs.Unfound.{NoRelease}
 use Rattle.thread_states.proofs.Asking.{Leads}
 use Rattle.thread_states.proofs.Accessing.{EachAccess, found_access, typed_accesses, both_each}
 use Rattle.thread_states.proofs.Births.{initial_origin}
@@ -49,6 +50,10 @@ use Rattle.thread_states.proofs.SilenceOfLives.{created_thread}
 use Rattle.thread_states.proofs.Stopping.{led}
 use Rattle.static_facts.specs.ObjectPaths.{MayBeAlong}
 use Rattle.c_program.specs.Counters.{arguments_of}
+use Rattle.pointer_targets.specs.LibraryObjects.{type_of_sort, is_of_sort, IsObjectAt, LeadsToObject}
+use Rattle.pointer_targets.proofs.Told.{Told, ObjectsAreStatic}
+use Rattle.static_facts.specs.Points.{is_creation}
+use Rattle.static_facts.specs.Candidates.{releases_thread}
 
 -- a call that creates, joins or detaches by the object of its first argument
 pub record IsThreadCall (here : Here) (action : Act) (cell : Cell) : Type 0 where
@@ -112,7 +117,7 @@ use_accessed (Makes object f) b doing e = when_accessed b _ doing e
 use_accessed (Marks k mark) b doing e = mark_accessed mark b doing e
 use_accessed _ b doing e = absurd (cc)
 
-module _ (program : Program) (well : IsWellFormed program) (names : Names) (premises : Premises program names) where
+module _ (program : Program) (well : IsWellFormed program) (names : Names) (premises : Told program names) where
   -- ---- a step that uses a thread object is by a call that names it
 
   module _ (cell : Cell) (of_sort : is_of_sort program A_thread cell ≡ true) (choice : Choice) (run : List Choice) (step : LastStep program choice run)
@@ -160,7 +165,7 @@ module _ (program : Program) (well : IsWellFormed program) (names : Names) (prem
 
   leads_to : (run : List Choice) (thread : ℕ) (control : Control) (frames : List Frame) (move : Move) (cell : Cell) → ((state_after program run).thread thread).stand ≡ Running control frames None → Offers control move
       → Leads (here program (state_after program run) thread) (act_at program move.action) A_thread 0 cell
-      → LeadsToObject program run thread (stands_at (origin_in program run thread) control move) A_thread 0 cell
+      → LeadsToObject program (type_of_sort A_thread) run thread (stands_at (origin_in program run thread) control move) 0 cell
   leads_to run thread control frames move cell s o l = record {
     control = control;
     frames = frames;
@@ -180,13 +185,13 @@ module _ (program : Program) (well : IsWellFormed program) (names : Names) (prem
       → ((state_after program run).thread thread).stand ≡ Running control frames None → Offers control move
       → Leads (here program (state_after program run) thread) (act_at program move.action) A_thread 0 cell → releases_thread (act_at program move.action) ≡ true
       → (location : Location) → IsObjectAt program A_thread cell location
-      → ReleasesThread program names (origin_in program run thread) (stands_at (origin_in program run thread) control move) location
+      → Releases program names (origin_in program run thread) (stands_at (origin_in program run thread) control move) location
   releases_at run good thread control frames move cell s o l e location at = record {
     reachable = reachable program well run good thread control frames None move s o;
     releases = e;
     candidate = record {
       named = premises.may_name run thread (stands_at (origin_in program run thread) control move) A_thread 0 cell location good (leads_to run thread control frames move cell s o l) at.here;
-      is = record { cell = cell; here = at.here; of_sort = at.of_sort };
+      cell = cell; here = at.here; of_sort = at.of_sort;
     };
   }
 
@@ -217,19 +222,28 @@ module _ (program : Program) (well : IsWellFormed program) (names : Names) (prem
       })
       go (inr e) = none.1 (origin_in program run choice.thread) (stands_at (origin_in program run choice.thread) step.by.control step.move) (record {
         releases = releases_at run step.good choice.thread step.by.control step.by.frames step.move cell stands (choice.pair, step.by.offers) call.leads e location at;
-        outside = created;
+        elsewhere = created;
       })
+
+  of_mark : (mark : Mark) → IsStateOf A_thread (state_of_mark mark)
+  of_mark Unmarked = tt
+  of_mark Joined = tt
+  of_mark Detached = tt
+
+  of_thread : (state : State) (held : Option ℕ) → IsStateOf A_thread (state_held state held)
+  of_thread now None = tt
+  of_thread now (Some thread) = of_mark (now.thread thread).mark
 
   pub states_possible : ThreadStatesArePossible program names
   states_possible cell location at none run good control frames inside move s o =
-      along (stands_at [] control move) (state_of_object (state_after program run) cell)
+      along (stands_at [] control move) (state_of_object (state_after program run) cell) (of_thread (state_after program run) ((state_after program run).holds cell))
       (subst (λ (x : ObjectState). MayBeAlong program names A_thread location (stands_at [] control move) x)
       (sym (object_seen program well cell (ours_by cell location at none) run good))
       (what_is_seen program well names premises A_thread cell location at run good control frames inside move s o))
 
   -- ---- Rule 22.11
 
-  module _ (static : ObjectsAreStatic program) (none : HasNoReleaseFinding program names) (run : List Choice) (good : IsGoodRun program run) (choice : Choice) where
+  module _ (static : ObjectsAreStatic program) (none : NoRelease program names) (run : List Choice) (good : IsGoodRun program run) (choice : Choice) where
     marked_state : (mark : Mark) → is_marked mark ≡ true → (state_of_mark mark ≡ Is_joined) ⊎ (state_of_mark mark ≡ Is_detached)
     marked_state Joined e = inl refl
     marked_state Detached e = inr refl
@@ -256,20 +270,20 @@ module _ (program : Program) (well : IsWellFormed program) (names : Names) (prem
         at : IsObjectAt program A_thread cell found.0
         at = record { here = found.1; of_sort = place_typed (here program (state_after program run) choice.thread) (type_of_sort A_thread) l.0.expression cell l.0.leads }
 
-        releases : ReleasesThread program names (origin_in program run choice.thread) (stands_at (origin_in program run choice.thread) control move) found.0
+        releases : Releases program names (origin_in program run choice.thread) (stands_at (origin_in program run choice.thread) control move) found.0
         releases = releases_at run good choice.thread control frames move cell s o l.0 l.1 found.0 at
 
         none_outside : NoneOutside program names found.0
         none_outside = (
-          (λ m. none.again (origin_in program run choice.thread) (stands_at (origin_in program run choice.thread) control move) found.0
-              (record { releases = releases; may_be = inl (made_outside (origin_in program run choice.thread) (stands_at (origin_in program run choice.thread) control move) Is_joined tt m) })),
+          (λ m. none.again (origin_in program run choice.thread) (stands_at (origin_in program run choice.thread) control move) found.0 releases
+              (inl (made_outside (origin_in program run choice.thread) (stands_at (origin_in program run choice.thread) control move) Is_joined tt m))),
           (λ t p q. none.outside t p found.0 q),
         )
 
         by_thread : (b : Bool) → (choice.thread == 0) ≡ b → ⊥
         by_thread false z = none.outside (origin_in program run choice.thread) (stands_at (origin_in program run choice.thread) control move) found.0
-            (record { releases = releases; outside = created_thread program well run good choice.thread control frames None s z })
-        by_thread true z = none.again (origin_in program run choice.thread) (stands_at (origin_in program run choice.thread) control move) found.0 (record { releases = releases; may_be = may_be })
+            (record { releases = releases; elsewhere = created_thread program well run good choice.thread control frames None s z })
+        by_thread true z = none.again (origin_in program run choice.thread) (stands_at (origin_in program run choice.thread) control move) found.0 releases may_be
           where
             initial : origin_in program run choice.thread ≡ []
             initial = ap (λ n. origin_in program run n) (eqb-true choice.thread 0 z) ∙ initial_origin program well run good
@@ -301,6 +315,6 @@ module _ (program : Program) (well : IsWellFormed program) (names : Names) (prem
         go (Some x) s n = let q = n.1 in cc
     released _ w e = absurd (cc)
 
-  pub silent_11 : ObjectsAreStatic program → SilentOn22_11 program names
+  pub silent_11 : ObjectsAreStatic program → NoRelease program names → (run : List Choice) → IsRun program run → Breaks R22_11 program run → ⊥
   silent_11 static none [] r b = b
   silent_11 static none (choice ∷ run) r b = released static none run r.0 choice b.0 (by_a_move program (state_after program run) choice b.0 b.1) b.2

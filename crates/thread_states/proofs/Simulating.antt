@@ -35,8 +35,7 @@ use Rattle.mutex_ownership.proofs.Later.{lt_differs, thread_made}
 use Rattle.mutex_ownership.proofs.MutexAsks.{RetakesBy, retakes_by, cell_equal}
 use Rattle.mutex_ownership.proofs.OtherThreads.{kept_outcome}
 use Rattle.mutex_ownership.proofs.Remembering.{sync_is}
-use Rattle.static_facts.specs.ObjectStates.{ObjectState, Is_unmade, Is_live, Doing, Begins, Joins_it, Detaches_it, Ends_it, doing_of, result_of_call, changed, changed_by, type_of_sort, is_of_sort}
-use Rattle.thread_states.specs.Premises.{Premises, LeadsToObject}
+use Rattle.static_facts.specs.ObjectStates.{ObjectState, Is_unmade, Is_live, Doing, Begins, Joins_it, Detaches_it, Ends_it, doing_of, result_of_call, changed, changed_by}
 use Rattle.static_facts.specs.ObjectPaths.{Mark, Follows_none, At, IsNoStart, ObjectStep, follows_none, passes, moves, leaves, succeeds, fails, may_succeed, may_fail, elsewhere, Starts, states}
 use Rattle.thread_states.specs.Seen.{when, use_by, use_with, seen}
 use Rattle.thread_states.specs.Following.{AgreesAt, Agrees}
@@ -45,6 +44,8 @@ use Rattle.thread_states.proofs.Quiet.{IsQuiet, quiet_by, wait_quiet, quiet_afte
 use Rattle.thread_states.proofs.Remembered.{Behind, behind_in, kept, so_remembered, follows, wait_follows}
 use Rattle.thread_states.proofs.Waiting.{waits_in}
 use Rattle.thread_states.proofs.Does.{seen_own, seen_other}
+use Rattle.pointer_targets.specs.LibraryObjects.{type_of_sort, is_of_sort, LeadsToObject}
+use Rattle.pointer_targets.proofs.Told.{Told}
 
 decide : (b : Bool) → (b ≡ true) ⊎ (b ≡ true → ⊥)
 decide true = inl refl
@@ -74,7 +75,7 @@ place_typed here t e m p = go (eval here e) p
     go (Some (Address cell)) q = let f = at cell (here.is_alive cell.root) (unwrap_or (option_map (same_type t) (type_of_cell here.program cell)) false) q in
         subst (λ (x : Cell). unwrap_or (option_map (same_type t) (type_of_cell here.program x)) false ≡ true) f.1 f.0
 
-module _ (program : Program) (well : IsWellFormed program) (names : Names) (premises : Premises program names) (sort : Sort) (c : Cell) (location : Location)
+module _ (program : Program) (well : IsWellFormed program) (names : Names) (premises : Told program names) (sort : Sort) (c : Cell) (location : Location)
     (located : location_of program c ≡ Some location) (of_sort : is_of_sort program sort c ≡ true) where
   opens : (mark : Mark) × (Starts [] mark × Agrees program sort c 0 [] mark)
   unfolding state_after opening seen
@@ -184,7 +185,7 @@ module _ (program : Program) (well : IsWellFormed program) (names : Names) (prem
       passed : doing_of sort action ≡ None → follows_outcome point action o choice.pair ≡ true → use_now ≡ None → Goal
       passed d f u = (At s kept_now, (passes s o d f, agrees s kept_now (done None u) keeps))
 
-      leads_here : (argument : ℕ) (m : Cell) → step.by.inside ≡ None → Leads now action sort argument m → LeadsToObject program run t point sort argument m
+      leads_here : (argument : ℕ) (m : Cell) → step.by.inside ≡ None → Leads now action sort argument m → LeadsToObject program (type_of_sort sort) run t point argument m
       leads_here argument m e l = record {
         control = step.by.control;
         frames = step.by.frames;

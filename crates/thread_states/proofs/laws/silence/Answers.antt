@@ -1,20 +1,17 @@
-use Rattle.thread_states.proofs.SilenceOfCreations.{silent_5_3}
-use Rattle.thread_states.proofs.SilenceOfEnds.{silent_15}
-use Rattle.thread_states.proofs.SilenceOfLives.{silent_14, silent_20}
-use Rattle.thread_states.proofs.SilenceOfReleases.{silent_11}
+use Rattle.thread_states.proofs.Clean.{silent_creations, silent_releases, silent_lives, silent_ends, silent_keys}
 use Rattle.thread_states.proofs.laws.silence.Goals as goal
 
 pub returns-clause-creations : goal.returns-clause-creations
-returns-clause-creations c = silent_5_3 c.args.program.now c.requires
-
-pub returns-clause-lives : goal.returns-clause-lives
-returns-clause-lives c names premises static = silent_14 c.args.program.now c.requires names premises static
-
-pub returns-clause-ends : goal.returns-clause-ends
-returns-clause-ends c names premises static = silent_15 c.args.program.now c.requires names premises static
-
-pub returns-clause-keys : goal.returns-clause-keys
-returns-clause-keys c names premises static = silent_20 c.args.program.now c.requires names premises static
+returns-clause-creations c = λ facts. silent_creations c.args.program.now c.requires.well_formed facts
 
 pub returns-clause-releases : goal.returns-clause-releases
-returns-clause-releases c names premises static = silent_11 c.args.program.now c.requires names premises static
+returns-clause-releases c = λ facts sound. silent_releases c.args.program.now c.requires.well_formed c.requires.of_text facts sound
+
+pub returns-clause-lives : goal.returns-clause-lives
+returns-clause-lives c = λ facts sound. silent_lives c.args.program.now c.requires.well_formed c.requires.of_text facts sound
+
+pub returns-clause-ends : goal.returns-clause-ends
+returns-clause-ends c = λ facts sound. silent_ends c.args.program.now c.requires.well_formed c.requires.of_text facts sound
+
+pub returns-clause-keys : goal.returns-clause-keys
+returns-clause-keys c = λ facts sound. silent_keys c.args.program.now c.requires.well_formed c.requires.of_text facts sound

@@ -14,22 +14,21 @@ use Rattle.c_program.specs.WellFormed.{IsWellFormed}
 use Rattle.c_program.specs.Paths.{Offers, stands_at}
 use Rattle.c_program.specs.Laws.{NamesAt, IsRequestBy}
 use Rattle.c_program.proofs.Asking.{by_a_move}
-use Rattle.thread_states.specs.Findings.{releases_thread}
-use Rattle.static_facts.specs.ObjectStates.{type_of_sort}
 use Rattle.thread_states.proofs.Asking.{Leads}
 use Rattle.thread_states.proofs.Simulating.{place_typed}
 use Rattle.thread_states.proofs.SilenceOfLives.{created_thread}
 use Rattle.thread_states.proofs.SilenceOfReleases.{join_call, detach_call}
 use Rattle.static_facts.specs.Facts.{Facts}
 use Rattle.guideline_findings.specs.Findings.{IsClean, own, joined_outside}
-use Rattle.guideline_silence.specs.Premises.{LeadsToObject}
-use Rattle.guideline_silence.proofs.Firsts.{clean_text}
-use Rattle.guideline_silence.proofs.Reaching.{reachable}
-use Rattle.soundness.specs.Texts.{IsOfText}
+use Rattle.thread_states.specs.Laws.{is_release, OnlyMainReleases}
+use Rattle.thread_states.proofs.Reaching.{reachable}
 use Rattle.static_facts.specs.Analyses.{AreSound}
-use Rattle.soundness.specs.Laws.{is_release, OnlyMainReleases}
-use Rattle.soundness.proofs.Naming.{named, static}
-use Rattle.soundness.proofs.Calls.{releases}
+use Rattle.pointer_targets.specs.LibraryObjects.{type_of_sort, LeadsToObject}
+use Rattle.pointer_targets.proofs.Told.{told, are_static}
+use Rattle.guideline_findings.specs.Texts.{IsOfText}
+use Rattle.guideline_findings.proofs.Firsts.{clean_text}
+use Rattle.guideline_findings.proofs.CleanText.{no_local_library}
+use Rattle.static_facts.specs.Candidates.{releases_thread}
 
 module _ (program : Program) (well : IsWellFormed program) (text : IsOfText program) (facts : Facts) (sound : AreSound program facts) (clean : IsClean program facts R22_11)
     (run : List Choice) (good : IsGoodRun program run) (choice : Choice) where
@@ -45,9 +44,9 @@ module _ (program : Program) (well : IsWellFormed program) (text : IsOfText prog
   outside control frames move cell s o l e z = clean _ _ _ _ (own _ _ _ _ (joined_outside thread (stands_at thread control move) found.0 (record {
     releases = record {
       reachable = reachable program well run good choice.thread control frames None move s o;
-      is = releases (act_at program move.action) e;
+      releases = e;
       candidate = record {
-        named = named program well facts sound run choice.thread (stands_at thread control move) 0 A_thread cell good lead found.0 found.1;
+        named = (told program well facts.names sound.names).may_name run choice.thread (stands_at thread control move) A_thread 0 cell found.0 good lead found.1;
         cell = cell;
         here = found.1;
         of_sort = place_typed (here program state choice.thread) (type_of_sort A_thread) l.expression cell l.leads;
@@ -56,7 +55,7 @@ module _ (program : Program) (well : IsWellFormed program) (text : IsOfText prog
     elsewhere = created_thread program well run good choice.thread control frames None s z;
   })))
     where
-      lead : LeadsToObject program run choice.thread (stands_at thread control move) 0 A_thread cell
+      lead : LeadsToObject program (type_of_sort A_thread) run choice.thread (stands_at thread control move) 0 cell
       lead = record {
         control = control;
         frames = frames;
@@ -73,7 +72,7 @@ module _ (program : Program) (well : IsWellFormed program) (text : IsOfText prog
       }
 
       found : (location : Location) × (location_of program cell ≡ Some location)
-      found = static program well facts sound run choice.thread (stands_at thread control move) 0 A_thread cell good lead text (clean_text program facts R22_11 refl clean)
+      found = are_static program well (no_local_library program facts text (clean_text program facts R22_11 refl clean)) run choice.thread (stands_at thread control move) A_thread 0 cell good lead
 
   initial : ((choice.thread == 0) ≡ false → ⊥) → choice.thread ≡ 0
   initial n = go (choice.thread == 0) refl
