@@ -11,10 +11,11 @@ use Rattle.c_program.specs.Requests.{Request, Creates, Joins, Detaches, Inits, L
 use Rattle.c_program.specs.Faults.{A_mutex, A_condition, A_thread}
 use Rattle.c_program.specs.Effects.{Sync, Makes, Suspends, if_done, marks, sync_of, sync_after}
 use Rattle.c_program.specs.Laws.{Names as RequestNames}
-use Rattle.guideline_findings.specs.Candidates.{is_creation, is_join}
 use Rattle.guideline_findings.specs.Graph.{takes_mutex}
 use Rattle.guideline_findings.specs.Mutexes.{is_wait, is_timed_lock}
 use Rattle.guideline_silence.proofs.Candidate.{Leads}
+use Rattle.static_facts.specs.Points.{is_creation}
+use Rattle.static_facts.specs.Candidates.{is_join}
 
 -- ---- arguments
 

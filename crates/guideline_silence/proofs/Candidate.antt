@@ -18,8 +18,9 @@ use Rattle.c_program.specs.Runs.{IsGoodRun, state_after}
 use Rattle.c_program.specs.Counters.{arguments_of}
 use Rattle.c_program.specs.Paths.{Offers, stands_at}
 use Rattle.static_facts.specs.Facts.{Facts}
-use Rattle.guideline_findings.specs.Candidates.{type_of_sort, is_of_sort, IsCandidateOf}
-use Rattle.guideline_silence.specs.Premises.{LeadsToObject, Premises}
+use Rattle.guideline_silence.proofs.Given.{Premises}
+use Rattle.pointer_targets.specs.LibraryObjects.{type_of_sort, is_of_sort, LeadsToObject}
+use Rattle.static_facts.specs.Candidates.{IsCandidate}
 
 -- an argument of the call leads to the object
 pub record Leads (here : Here) (action : Act) (argument : ℕ) (sort : Sort) (object : Cell) : Type 0 where
@@ -50,7 +51,7 @@ place_sort here sort e c p = go (eval here e) p
 pub leads_to : (program : Program) (run : List Choice) (thread : ℕ) (control : Control) (frames : List Frame) (move : Move) (argument : ℕ) (sort : Sort) (object : Cell)
     → ((state_after program run).thread thread).stand ≡ Running control frames None → Offers control move
     → Leads (here program (state_after program run) thread) (act_at program move.action) argument sort object
-    → LeadsToObject program run thread (stands_at ((state_after program run).thread thread).origin control move) argument sort object
+    → LeadsToObject program (type_of_sort sort) run thread (stands_at ((state_after program run).thread thread).origin control move) argument object
 leads_to program run thread control frames move argument sort object s o l = record {
   control = control;
   frames = frames;
@@ -71,17 +72,17 @@ pub record Located (program : Program) (facts : Facts) (point : Point) (argument
   pub location : Location
   pub here : location_of program object ≡ Some location
   pub of_sort : is_of_sort program sort object ≡ true
-  pub candidate : IsCandidateOf program facts point argument sort location
+  pub candidate : IsCandidate program facts.names point argument sort location
 
 module _ (program : Program) (facts : Facts) (premises : Premises program facts) where
   pub located : (run : List Choice) → IsGoodRun program run → (thread : ℕ) (point : Point) (argument : ℕ) (sort : Sort) (object : Cell)
-      → LeadsToObject program run thread point argument sort object → Located program facts point argument sort object
-  located run good thread point argument sort object l = let s = premises.static run thread point argument sort object good l in
+      → LeadsToObject program (type_of_sort sort) run thread point argument object → Located program facts point argument sort object
+  located run good thread point argument sort object l = let s = premises.static run thread point sort argument object good l in
       let q = place_sort (here program (state_after program run) thread) sort l.expression object l.leads in record {
         location = s.0;
         here = s.1;
         of_sort = q;
-        candidate = record { named = premises.may_name run thread point argument sort object s.0 good l s.1; cell = object; here = s.1; of_sort = q };
+        candidate = record { named = premises.names.may_name run thread point sort argument object s.0 good l s.1; cell = object; here = s.1; of_sort = q };
       }
 
   pub located_at : (run : List Choice) → IsGoodRun program run → (thread : ℕ) (control : Control) (frames : List Frame) (move : Move) (argument : ℕ) (sort : Sort) (object : Cell)

@@ -17,17 +17,16 @@ use Rattle.c_program.specs.Laws.{IsRequestBy}
 use Rattle.c_program.proofs.Asking.{by_a_move}
 use Rattle.mutex_ownership.proofs.MutexAsks.{cell_equal}
 use Rattle.static_facts.specs.Facts.{Facts}
-use Rattle.guideline_findings.specs.Candidates.{IsCandidateOf}
 use Rattle.guideline_findings.specs.Findings.{waited_with_second, own, IsClean}
-use Rattle.guideline_silence.specs.Premises.{Premises, Given}
-use Rattle.guideline_silence.specs.Laws.{IsSilent}
+use Rattle.guideline_silence.proofs.Given.{Premises, Given}
 use Rattle.guideline_silence.proofs.Reaching.{reachable}
-use Rattle.guideline_silence.proofs.Firsts.{clean_text}
-use Rattle.guideline_silence.proofs.OneCell.{apart}
 use Rattle.guideline_silence.proofs.Candidate.{Located, located_at}
 use Rattle.guideline_silence.proofs.Asked.{wait_leads}
 use Rattle.guideline_silence.proofs.Links.{asked_outside, same_location}
 use Rattle.guideline_silence.proofs.FirstMutex.{first_wait}
+use Rattle.static_facts.specs.Candidates.{IsCandidate}
+use Rattle.guideline_findings.specs.Silence.{IsSilent}
+use Rattle.guideline_findings.proofs.Firsts.{clean_text}
 
 record HasOther (m : Cell) (life : Life (Option Cell)) : Type 0 where
   first : Cell
@@ -42,7 +41,7 @@ has_other m Dead n = absurd n
 
 module _ (program : Program) (well : IsWellFormed program) (facts : Facts) (premises : Premises program facts) where
   differ : (m first : Cell) (p q : Point) (l : Located program facts p 1 A_mutex m) (k : Located program facts q 1 A_mutex first) → same_cell first m ≡ false → l.location ≢ k.location
-  differ m first p q l k n e = let c : m ≡ first = apart program well A_mutex m first k.location l.of_sort k.of_sort (l.here ∙ ap Some e) k.here in
+  differ m first p q l k n e = let c : m ≡ first = premises.names.one_cell A_mutex m first k.location l.of_sort k.of_sort (l.here ∙ ap Some e) k.here in
       let s : same_cell first m ≡ true = cell_equal first m (sym c) in
       absurd (let f : true ≡ false = sym s ∙ n in cc)
 
@@ -70,7 +69,7 @@ module _ (program : Program) (well : IsWellFormed program) (facts : Facts) (prem
           other_waits = record {
             reachable = f.reachable;
             waits = f.waits;
-            names = subst (λ (x : Location). IsCandidateOf program facts f.point 0 A_condition x) (same_location f.condition.location lc.location (sym f.condition.here ∙ lc.here)) f.condition.candidate;
+            names = subst (λ (x : Location). IsCandidate program facts.names f.point 0 A_condition x) (same_location f.condition.location lc.location (sym f.condition.here ∙ lc.here)) f.condition.candidate;
             with_mutex = f.mutex.candidate;
           };
           differ = differ m h.first (stands_at ((state_after program run).thread choice.thread).origin r.control r.move) f.point lm f.mutex h.differs;

@@ -20,10 +20,12 @@ use Rattle.path_simulation.specs.Tracks.{at_entry, by_move}
 use Rattle.static_facts.specs.Depths.{Does_lock, marked, passes, moves}
 use Rattle.guideline_findings.specs.Ownership.{MayOwn}
 use Rattle.static_facts.specs.Facts.{Facts}
-use Rattle.guideline_findings.specs.Candidates.{IsReachable, IsCandidateOf}
 use Rattle.guideline_findings.specs.Graph.{Of_mutex, wants_mutex, has_mutex, EdgeAt, Edge}
 use Rattle.guideline_findings.specs.Text.{place_of}
-use Rattle.guideline_findings.specs.Findings.{Finding, own, cycle, Named_location, Cycle}
+use Rattle.guideline_findings.specs.Findings.{Finding, own, cycle, Named_location}
+use Rattle.misra_base.specs.declared.kind.Kind.TheVariants as kinds
+use Rattle.static_facts.specs.Points.{IsReachable}
+use Rattle.static_facts.specs.Candidates.{IsCandidate}
 
 abbrev rest : Statement
 rest = block2 (Do 2) (Do 3)
@@ -180,10 +182,10 @@ b_differs : b ≢ a
 unfolding object_in
 b_differs e = no_number 0 1 (omega arith) (ap object_in (sym e))
 
-b_candidate : IsCandidateOf locker facts main_point 0 A_mutex b
+b_candidate : IsCandidate locker facts.names main_point 0 A_mutex b
 b_candidate = record { named = refl; cell = record { root = Static 1; path = [] }; here = refl; of_sort = refl }
 
-a_candidate : IsCandidateOf locker facts worker_point 0 A_mutex a
+a_candidate : IsCandidate locker facts.names worker_point 0 A_mutex a
 a_candidate = record { named = refl; cell = record { root = Static 0; path = [] }; here = refl; of_sort = refl }
 
 forth : EdgeAt locker facts [] main_point b (Of_mutex a) (Of_mutex b)
@@ -199,5 +201,5 @@ back = record {
   is = record { reachable = worker_reachable; has = has_mutex b worker_owns; wants = wants_mutex 0 a refl a_candidate; between = b_differs };
 }
 
-pub has_finding : Finding locker facts D5_2 (place_of locker 2) (Named_location b) Cycle None
+pub has_finding : Finding locker facts D5_2 (place_of locker 2) (Named_location b) kinds.Cycle None
 has_finding = own _ _ _ _ (cycle [] main_point b (record { from = Of_mutex a; to = Of_mutex b; edge = forth; cycle = record { between = []; back = inr back } }))

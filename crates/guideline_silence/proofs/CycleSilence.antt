@@ -10,10 +10,11 @@ use Rattle.c_program.specs.WellFormed.{IsWellFormed}
 use Rattle.static_facts.specs.Facts.{Facts}
 use Rattle.guideline_findings.specs.Graph.{Vertex, Edge}
 use Rattle.guideline_findings.specs.Findings.{cycle, own, IsClean}
-use Rattle.guideline_silence.specs.Premises.{Given}
-use Rattle.guideline_silence.specs.Laws.{IsSilent, EachLinkIsAnEdge, EachWaitingCycleIsOfEdges}
-use Rattle.guideline_silence.proofs.Firsts.{clean_text}
+use Rattle.guideline_silence.proofs.Given.{Given}
+use Rattle.guideline_silence.specs.Laws.{EachLinkIsAnEdge, EachWaitingCycleIsOfEdges}
 use Rattle.guideline_silence.proofs.Links.{links_are_edges, cycle_of_edges}
+use Rattle.guideline_findings.specs.Silence.{IsSilent}
+use Rattle.guideline_findings.proofs.Firsts.{clean_text}
 
 -- the state that a run reaches is that of a run whose steps all have a meaning
 record ReachedBy (program : Program) (state : State) : Type 0 where

@@ -18,13 +18,13 @@ use Rattle.path_simulation.specs.Simulates.{LastStep}
 use Rattle.path_simulation.proofs.Simulated.{last_step}
 use Rattle.mutex_ownership.proofs.Remembering.{sync_is}
 use Rattle.static_facts.specs.Facts.{Facts}
-use Rattle.guideline_findings.specs.Candidates.{IsReachable}
 use Rattle.guideline_findings.specs.Mutexes.{is_wait}
-use Rattle.guideline_silence.specs.Premises.{Premises}
+use Rattle.guideline_silence.proofs.Given.{Premises}
 use Rattle.guideline_silence.proofs.Reaching.{reachable}
 use Rattle.guideline_silence.proofs.Candidate.{Located, located_at}
 use Rattle.guideline_silence.proofs.Asked.{wait_leads, suspends_by}
 use Rattle.guideline_silence.proofs.Suspended.{outside}
+use Rattle.static_facts.specs.Points.{IsReachable}
 
 pub record FirstWait (program : Program) (facts : Facts) (c m : Cell) : Type 0 where
   pub thread : List Spot

@@ -22,11 +22,11 @@ use Rattle.path_simulation.proofs.Simulated.{last_step}
 use Rattle.mutex_ownership.proofs.Later.{made_grows, lt_differs}
 use Rattle.mutex_ownership.proofs.Remembering.{sync_is}
 use Rattle.static_facts.specs.Facts.{Facts}
-use Rattle.guideline_findings.specs.Candidates.{is_creation, thread_made_at}
-use Rattle.guideline_silence.specs.Premises.{Premises}
+use Rattle.guideline_silence.proofs.Given.{Premises}
 use Rattle.guideline_silence.proofs.Candidate.{Located, located_at}
 use Rattle.guideline_silence.proofs.Asked.{makes_by, creation_leads}
 use Rattle.guideline_silence.proofs.Suspended.{outside}
+use Rattle.static_facts.specs.Points.{is_creation, thread_of}
 
 -- the creation of a thread that an object holds
 pub record Created (program : Program) (facts : Facts) (state : State) (object : Cell) (thread : ℕ) : Type 0 where
@@ -35,7 +35,7 @@ pub record Created (program : Program) (facts : Facts) (state : State) (object :
   pub is_point : IsPoint program creator point
   pub creates : is_creation (act_at program point.spot.action) ≡ true
   pub object_is : Located program facts point 0 A_thread object
-  pub origin : (state.thread thread).origin ≡ thread_made_at point
+  pub origin : (state.thread thread).origin ≡ thread_of point
   pub made : thread < state.made
 
 module _ (program : Program) (well : IsWellFormed program) (facts : Facts) (premises : Premises program facts) where
@@ -63,13 +63,13 @@ module _ (program : Program) (well : IsWellFormed program) (facts : Facts) (prem
     abbrev point : Point
     point = stands_at (state.thread t).origin step.by.control step.move
 
-    new_origin : (made : Option ℕ) (function : ℕ) → made ≡ Some function → (thread_after program state t step.move step.effect made state.made).origin ≡ thread_made_at point
+    new_origin : (made : Option ℕ) (function : ℕ) → made ≡ Some function → (thread_after program state t step.move step.effect made state.made).origin ≡ thread_of point
     new_origin made function e = ap (λ (o : Option ℕ). (thread_after program state t step.move step.effect o state.made).origin) e
         ∙ ap (λ b. (cond b (thread_before program function state.called (spot_at (state.thread t) step.move ∷ string_at (state.thread t))) (moved_thread program state t step.move step.effect state.made)).origin)
         (eq-eqb state.made state.made refl)
         ∙ ap (λ (s : Stand). spot_in (control_of s) step.move.action ∷ (string_of (control_of s) ++ (state.thread t).origin)) step.by.stands
 
-    origin_later : (function : ℕ) → made_by step.effect.sync ≡ Some function → (later.thread state.made).origin ≡ thread_made_at point
+    origin_later : (function : ℕ) → made_by step.effect.sync ≡ Some function → (later.thread state.made).origin ≡ thread_of point
     unfolding after
     origin_later function e = new_origin (made_by step.effect.sync) function e
 

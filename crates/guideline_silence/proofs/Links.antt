@@ -16,21 +16,20 @@ use Rattle.c_program.specs.Paths.{Offers, stands_at}
 use Rattle.c_program.specs.Laws.{Names as RequestNames, NamesAt, IsRequestBy}
 use Rattle.c_program.proofs.Asking.{by_a_move}
 use Rattle.mutex_ownership.specs.Owning.{depth_with_wait}
-use Rattle.mutex_ownership.specs.Laws.{IsMutexAt}
-use Rattle.mutex_ownership.specs.Premises.{Premises as OwnersPremises}
 use Rattle.mutex_ownership.proofs.Possible.{possible_with_wait}
 use Rattle.static_facts.specs.Facts.{Facts}
-use Rattle.guideline_findings.specs.Candidates.{IsCandidateOf, thread_made_at}
 use Rattle.guideline_findings.specs.Graph.{Vertex, Of_mutex, Of_end, Wants, wants_mutex, wants_end, Has, has_mutex, has_end, IsEdgeBetween, Edge}
-use Rattle.guideline_silence.specs.Premises.{Premises}
+use Rattle.guideline_silence.proofs.Given.{Premises}
 use Rattle.guideline_silence.specs.Laws.{LinksAreEdges}
 use Rattle.guideline_silence.proofs.Reaching.{reachable}
-use Rattle.guideline_silence.proofs.OneCell.{apart}
 use Rattle.guideline_silence.proofs.Candidate.{located_at}
 use Rattle.guideline_silence.proofs.Asked.{lock_leads, join_leads}
 use Rattle.guideline_silence.proofs.Suspended.{waits_at}
 use Rattle.guideline_silence.proofs.HeldThreads.{Created, created}
-use Rattle.guideline_silence.proofs.OwnersGiven.{owners_given}
+use Rattle.pointer_targets.specs.LibraryObjects.{IsObjectAt}
+use Rattle.pointer_targets.proofs.Told.{Told}
+use Rattle.static_facts.specs.Points.{thread_of}
+use Rattle.static_facts.specs.Candidates.{IsCandidate}
 
 -- a request that retakes nothing is made outside a wait
 pub asked_outside : (program : Program) (state : State) (choice : Choice) (request : Request) → ((m : Cell) (z : ℤ) → request ≡ Retakes m z → ⊥) → (r : IsRequestBy program state choice request)
@@ -57,8 +56,8 @@ module _ (program : Program) (well : IsWellFormed program) (facts : Facts) (prem
 
   -- what one thread waits for, until the other gives it or ends
   data IsTarget (t u : ℕ) : Vertex → Type 0 where
-    the_mutex : (m : Cell) (location : Location) → IsMutexAt program m location → (mutex : Mutex) → state.mutex m ≡ Live mutex → 0 < mutex.depth → mutex.owner ≡ u → u ≢ t → IsTarget t u (Of_mutex location)
-    the_end : (object : Cell) (c : Created program facts state object u) → IsTarget t u (Of_end (thread_made_at c.point))
+    the_mutex : (m : Cell) (location : Location) → IsObjectAt program A_mutex m location → (mutex : Mutex) → state.mutex m ≡ Live mutex → 0 < mutex.depth → mutex.owner ≡ u → u ≢ t → IsTarget t u (Of_mutex location)
+    the_end : (object : Cell) (c : Created program facts state object u) → IsTarget t u (Of_end (thread_of c.point))
 
   record Link (t u : ℕ) : Type 0 where
     control : Control
@@ -89,7 +88,7 @@ module _ (program : Program) (well : IsWellFormed program) (facts : Facts) (prem
         object = l.location;
         target = Of_mutex l.location;
         wants = wants_mutex 0 l.location k.0 l.candidate;
-        is = the_mutex m l.location (record { here = l.here; of_mutex = l.of_sort }) mutex e d o n;
+        is = the_mutex m l.location (record { here = l.here; of_sort = l.of_sort }) mutex e d o n;
       }
 
   retakes_link : (t u : ℕ) (m : Cell) (mutex : Mutex) (control : Control) (frames : List Frame) → (state.thread t).stand ≡ Running control frames (Some m) → state.mutex m ≡ Live mutex → 0 < mutex.depth
@@ -104,7 +103,7 @@ module _ (program : Program) (well : IsWellFormed program) (facts : Facts) (prem
     object = w.mutex.location;
     target = Of_mutex w.mutex.location;
     wants = wants_mutex 1 w.mutex.location w.takes w.mutex.candidate;
-    is = the_mutex m w.mutex.location (record { here = w.mutex.here; of_mutex = w.mutex.of_sort }) mutex e d o n;
+    is = the_mutex m w.mutex.location (record { here = w.mutex.here; of_sort = w.mutex.of_sort }) mutex e d o n;
   }
 
   joins_link : (t u : ℕ) (object : Cell) (into : Option Cell) → IsRequestBy program state (record { thread = t; pair = 0; values = [] }) (Joins object into) → state.holds object ≡ Some u → Link t u
@@ -120,9 +119,9 @@ module _ (program : Program) (well : IsWellFormed program) (facts : Facts) (prem
         stands = q.0;
         offers = (0, r.offers);
         object = l.location;
-        target = Of_end (thread_made_at c.point);
+        target = Of_end (thread_of c.point);
         wants = wants_end l.location c.creator c.point k.0 l.candidate c.is_point c.creates
-            (subst (λ (x : Location). IsCandidateOf program facts c.point 0 A_thread x) (same_location c.object_is.location l.location (sym c.object_is.here ∙ l.here)) c.object_is.candidate);
+            (subst (λ (x : Location). IsCandidate program facts.names c.point 0 A_thread x) (same_location c.object_is.location l.location (sym c.object_is.here ∙ l.here)) c.object_is.candidate);
         is = the_end object c;
       }
 
@@ -133,8 +132,8 @@ module _ (program : Program) (well : IsWellFormed program) (facts : Facts) (prem
 
   -- ---- what the thread that is waited for has
 
-  given : OwnersPremises program facts.names
-  given = owners_given program well facts premises
+  given : Told program facts.names
+  given = premises.names
 
   owned_depth : (u : ℕ) (life : Life Mutex) (mutex : Mutex) (level : ℕ) → life ≡ Live mutex → 0 < mutex.depth → mutex.owner ≡ u → 0 < min (depth_of u life + level) 8
   owned_depth u life mutex level e d o = subst (λ (x : Life Mutex). 0 < min (depth_of u x + level) 8) (sym e)
@@ -154,12 +153,12 @@ module _ (program : Program) (well : IsWellFormed program) (facts : Facts) (prem
   had t u v _ (the_end object c) k = subst (λ (thread : List Spot). Has program facts (origin_of u) (stands_at (origin_of u) k.control k.move) (Of_end thread)) c.origin
       (has_end (λ e. created_so c.point (sym c.origin ∙ e)))
     where
-      created_so : (p : Point) → thread_made_at p ≡ [] → ⊥
+      created_so : (p : Point) → thread_of p ≡ [] → ⊥
       created_so p q = cc
 
   between : (t u v : ℕ) (a b : Vertex) → IsTarget t u a → IsTarget u v b → IsEdgeBetween a b
   between t u v _ _ (the_mutex m location at mutex e d o n) (the_mutex k other bt mutex_k f l p q) = λ same.
-      let c = apart program well A_mutex m k other at.of_mutex bt.of_mutex (at.here ∙ ap Some same) bt.here in
+      let c = premises.names.one_cell A_mutex m k other at.of_sort bt.of_sort (at.here ∙ ap Some same) bt.here in
       let s = same_live mutex mutex_k (sym e ∙ ap state.mutex c ∙ f) in
       q (sym p ∙ sym (ap (λ (x : Mutex). x.owner) s) ∙ o)
   between t u v _ _ (the_mutex m location at mutex e d o n) (the_end object c) = tt

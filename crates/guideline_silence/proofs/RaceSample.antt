@@ -18,10 +18,11 @@ use Rattle.c_program.proofs.Members.{to_contains}
 use Rattle.path_simulation.specs.Tracks.{at_entry, by_move}
 use Rattle.static_facts.specs.Depths.{marked, passes, MayHold}
 use Rattle.static_facts.specs.Facts.{Facts}
-use Rattle.guideline_findings.specs.Candidates.{IsReachable}
 use Rattle.guideline_findings.specs.Races.{MayRace}
 use Rattle.guideline_findings.specs.Text.{place_of}
-use Rattle.guideline_findings.specs.Findings.{Finding, own, race, Named_location, Race}
+use Rattle.guideline_findings.specs.Findings.{Finding, own, race, Named_location}
+use Rattle.misra_base.specs.declared.kind.Kind.TheVariants as kinds
+use Rattle.static_facts.specs.Points.{IsReachable}
 
 -- thrd_t t; int x; int w(void *arg) { x = 2; return 0; } int main(void) { thrd_create(&t, w, NULL); x = 1; return 0; }
 abbrev racer : Program
@@ -115,5 +116,5 @@ may_race = record {
   unlocked = λ share. share.at_first (held_by_none share.mutex);
 }
 
-pub has_finding : Finding racer facts D5_1 (place_of racer 1) (Named_location x) Race (Some (place_of racer 3))
+pub has_finding : Finding racer facts D5_1 (place_of racer 1) (Named_location x) kinds.Race (Some (place_of racer 3))
 has_finding = own _ _ _ _ (race [] worker main_write worker_write x may_race)

@@ -11,21 +11,22 @@ use Rattle.c_program.specs.Runs.{IsGoodRun, HasMeaning, outcome_of, Moment, mome
 use Rattle.c_program.specs.Happens.{Before, state_at}
 use Rattle.c_program.specs.Breaks.{Conflict, point_of}
 use Rattle.c_program.specs.WellFormed.{IsWellFormed}
-use Rattle.c_program.specs.Paths.{stands_at}
-use Rattle.mutex_ownership.specs.Premises.{Premises as OwnersPremises}
+use Rattle.c_program.specs.Paths.{stands_at, IsPoint}
 use Rattle.mutex_ownership.proofs.Moments.{IsMoment, moment_is, last_moment, last_by, at_within}
 use Rattle.mutex_ownership.proofs.Held.{held_is_ordered}
-use Rattle.static_facts.specs.Facts.{Manner, Facts, MayAccess}
-use Rattle.guideline_findings.specs.Candidates.{IsReachable}
+use Rattle.static_facts.specs.Facts.{Facts}
+use Rattle.pointer_targets.specs.Laws.{MayConflict}
+use Rattle.pointer_targets.proofs.Conflicts.{conflicts_told}
+use Rattle.thread_states.proofs.Ordering.{in_order}
+use Rattle.thread_states.proofs.Stopping.{moment_point}
 use Rattle.guideline_findings.specs.Races.{ShareMutex, MayRace}
 use Rattle.guideline_findings.specs.Findings.{race, own, IsClean}
-use Rattle.guideline_silence.specs.Premises.{accesses_in, Premises, Given}
-use Rattle.guideline_silence.specs.Laws.{IsSilent}
+use Rattle.guideline_silence.proofs.Given.{Premises, Given}
 use Rattle.guideline_silence.proofs.Reaching.{reachable}
-use Rattle.guideline_silence.proofs.Firsts.{clean_text}
-use Rattle.guideline_silence.proofs.Manners.{conflicting}
-use Rattle.guideline_silence.proofs.Paired.{paired}
-use Rattle.guideline_silence.proofs.OwnersGiven.{owners_given}
+use Rattle.pointer_targets.proofs.Told.{Told, told}
+use Rattle.static_facts.specs.Points.{IsReachable}
+use Rattle.static_facts.specs.Analyses.{AreSound}
+use Rattle.guideline_findings.specs.Silence.{IsSilent}
 
 -- a static cell has a location
 located : (program : Program) (cell : Cell) → is_static cell ≡ true → (location : Location) × (location_of program cell ≡ Some location)
@@ -50,15 +51,13 @@ origin_at program m = ((state_at program m).thread m.choice.thread).origin
 point_is : (program : Program) (m : Moment) → (s : IsMoment program m) → point_of program m ≡ stands_at (origin_at program m) s.by.control m.move
 point_is program m s = ap (λ (x : Stand). record { string = string_of (control_of x) ++ origin_at program m; spot = spot_in (control_of x) m.move.action }) s.by.stands
 
-module _ (program : Program) (well : IsWellFormed program) (facts : Facts) (premises : Premises program facts) where
+module _ (program : Program) (well : IsWellFormed program) (facts : Facts) (sound : AreSound program facts) where
+  given : Told program facts.names
+  given = told program well facts.names sound.names
+
   reachable_at : (m : Moment) → IsMoment program m → IsReachable program (origin_at program m) (point_of program m)
   reachable_at m s = subst (IsReachable program (origin_at program m)) (sym (point_is program m s))
       (reachable program well m.earlier s.good m.choice.thread s.by.control s.by.frames s.by.inside m.move s.by.stands (m.choice.pair, s.by.offers))
-
-  accesses_at : (m : Moment) → IsMoment program m → (cell : Cell) (region : Location) → is_data_cell program cell ≡ true → location_of program cell ≡ Some region
-      → (manner : Manner) → accesses_in manner m.effect cell ≡ true → MayAccess facts (point_of program m) region manner
-  accesses_at m s cell region d l manner a = subst (λ (p : Point). MayAccess facts p region manner) (sym (point_is program m s))
-      (premises.accesses m.earlier s.good m.choice m.move m.effect s.by cell region d l manner a)
 
   module _ (clean : IsClean program facts D5_1) (run : List Choice) (good : IsGoodRun program run) (i j : ℕ) (first last : Moment)
       (at_first : moment_at program run i ≡ Some first) (at_last : moment_at program run j ≡ Some last) (earlier : i < j) (apart : first.choice.thread ≢ last.choice.thread) where
@@ -68,25 +67,33 @@ module _ (program : Program) (well : IsWellFormed program) (facts : Facts) (prem
     is_last : IsMoment program last
     is_last = moment_is program run j last good at_last
 
-    ordered : OwnersPremises program facts.names → ShareMutex program facts (origin_at program first) (point_of program first) (origin_at program last) (point_of program last) → Before program run i j
-    ordered given share = held_is_ordered program well facts.names given share.cell share.mutex share.is_mutex run good i j first last at_first at_last earlier apart share.at_first share.at_second
+    ordered : ShareMutex program facts (origin_at program first) (point_of program first) (origin_at program last) (point_of program last) → Before program run i j
+    ordered share = held_is_ordered program well facts.names given share.cell share.mutex share.is_mutex run good i j first last at_first at_last earlier apart share.at_first share.at_second
+
+    conflicting : (cell : Cell) (region : Location) → is_data_cell program cell ≡ true → location_of program cell ≡ Some region → Conflict first.effect last.effect cell
+        → MayConflict program (point_of program first) (point_of program last) region
+    conflicting cell region d l c = subst (λ (p : Point). MayConflict program p (point_of program last) region) (sym (point_is program first is_first))
+        (subst (λ (q : Point). MayConflict program (stands_at (origin_at program first) is_first.by.control first.move) q region) (sym (point_is program last is_last))
+        (conflicts_told program well first.earlier is_first.good first.choice first.move first.effect is_first.by last.earlier is_last.good last.choice last.move last.effect is_last.by cell region l d c))
 
     may_race : (cell : Cell) (region : Location) → is_data_cell program cell ≡ true → location_of program cell ≡ Some region → Conflict first.effect last.effect cell
         → (Before program run i j → ⊥) → MayRace program facts (origin_at program first) (point_of program first) region (origin_at program last) (point_of program last)
-    may_race cell region d l c late = let k = conflicting first.effect last.effect cell
-        (paired program (state_at program first) first.choice first.move first.effect is_first.by cell)
-        (paired program (state_at program last) last.choice last.move last.effect is_last.by cell) c in record {
-          is_region = record { cell = cell; is_data = d; here = l };
-          reachable = reachable_at first is_first;
-          other_reachable = reachable_at last is_last;
-          manner = k.one;
-          accesses = accesses_at first is_first cell region d l k.one k.is_one;
-          other_manner = k.other;
-          other_accesses = accesses_at last is_last cell region d l k.other k.is_other;
-          conflict = k.conflict;
-          unordered = λ o. late (premises.order run good i j first last at_first at_last earlier apart o);
-          unlocked = λ share. late (ordered (owners_given program well facts premises) share);
-        }
+    may_race cell region d l c late = let k = conflicting cell region d l c in record {
+      is_region = record { cell = cell; is_data = d; here = l };
+      reachable = reachable_at first is_first;
+      other_reachable = reachable_at last is_last;
+      manner = k.manner;
+      accesses = sound.accesses (origin_at program first) (point_of program first) region k.manner (point_at i first at_first) k.first;
+      other_manner = k.other_manner;
+      other_accesses = sound.accesses (origin_at program last) (point_of program last) region k.other_manner (point_at j last at_last) k.second;
+      conflict = k.conflict;
+      unordered = λ o. late (in_order program well facts.names given run good i j first last at_first at_last earlier
+          (sound.ordered _ _ _ _ (point_at i first at_first) (point_at j last at_last) o));
+      unlocked = λ share. late (ordered share);
+    }
+      where
+        point_at : (n : ℕ) (m : Moment) → moment_at program run n ≡ Some m → IsPoint program (origin_at program m) (point_of program m)
+        point_at n m a = moment_point program well run n m good a
 
     pub no_race : (cell : Cell) → is_static cell ≡ true → is_data_cell program cell ≡ true → Conflict first.effect last.effect cell → (Before program run i j → ⊥) → ⊥
     no_race cell s d c late = let l = located program cell s in
@@ -121,5 +128,5 @@ module _ (program : Program) (well : IsWellFormed program) (facts : Facts) (prem
       (before_end i (length run) (at_within program (choice ∷ run) i first at_first) (unlike choice run i first last at_first at_last apart)) apart cell static data_cell conflict
       (λ before. late (subst (λ (k : ℕ). Before program (choice ∷ run) i k) (sym n) before))
 
-pub silent_races : (program : Program) → IsWellFormed program → (facts : Facts) → Given program facts → IsSilent program facts D5_1
-silent_races program well facts given clean = no_races program well facts (given (clean_text program facts D5_1 refl clean)) clean
+pub silent_races : (program : Program) → IsWellFormed program → (facts : Facts) → AreSound program facts → IsSilent program facts D5_1
+silent_races program well facts sound = no_races program well facts sound

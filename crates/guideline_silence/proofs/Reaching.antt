@@ -9,7 +9,7 @@ use Rattle.c_program.specs.Runs.{IsGoodRun, state_after}
 use Rattle.c_program.specs.WellFormed.{IsWellFormed}
 use Rattle.c_program.specs.Paths.{Offers, stands_at}
 use Rattle.c_program.proofs.Led.{led}
-use Rattle.guideline_findings.specs.Candidates.{IsReachable}
+use Rattle.static_facts.specs.Points.{IsReachable}
 
 pub reachable : (program : Program) → IsWellFormed program → (run : List Choice) → IsGoodRun program run
     → (thread : ℕ) (control : Control) (frames : List Frame) (inside : Option Cell) (move : Move)

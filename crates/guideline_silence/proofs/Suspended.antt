@@ -25,7 +25,7 @@ use Rattle.mutex_ownership.proofs.MutexAsks.{RetakesBy, retakes_by}
 use Rattle.mutex_ownership.proofs.Remembering.{sync_is}
 use Rattle.static_facts.specs.Facts.{Facts}
 use Rattle.guideline_findings.specs.Graph.{takes_mutex}
-use Rattle.guideline_silence.specs.Premises.{Premises}
+use Rattle.guideline_silence.proofs.Given.{Premises}
 use Rattle.guideline_silence.proofs.Candidate.{Located, located_at}
 use Rattle.guideline_silence.proofs.Asked.{wait_leads, suspends_by}
 

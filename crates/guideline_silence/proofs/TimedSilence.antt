@@ -16,17 +16,17 @@ use Rattle.c_program.specs.Laws.{IsRequestBy}
 use Rattle.c_program.proofs.Asking.{by_a_move}
 use Rattle.mutex_ownership.proofs.Begun.{Begun, begun}
 use Rattle.static_facts.specs.Facts.{Facts}
-use Rattle.guideline_findings.specs.Candidates.{IsReachable, IsCandidateOf}
 use Rattle.guideline_findings.specs.Mutexes.{MayBeUntimed}
 use Rattle.guideline_findings.specs.Findings.{kind, own, IsClean}
-use Rattle.guideline_silence.specs.Premises.{Premises, Given}
-use Rattle.guideline_silence.specs.Laws.{IsSilent}
+use Rattle.guideline_silence.proofs.Given.{Premises, Given}
 use Rattle.guideline_silence.proofs.Reaching.{reachable}
-use Rattle.guideline_silence.proofs.Firsts.{clean_text}
-use Rattle.guideline_silence.proofs.OwnersGiven.{to_object}
 use Rattle.guideline_silence.proofs.Candidate.{located, located_at}
 use Rattle.guideline_silence.proofs.Asked.{timed_leads}
 use Rattle.guideline_silence.proofs.Links.{asked_outside, same_location}
+use Rattle.static_facts.specs.Points.{IsReachable}
+use Rattle.static_facts.specs.Candidates.{IsCandidate}
+use Rattle.guideline_findings.specs.Silence.{IsSilent}
+use Rattle.guideline_findings.proofs.Firsts.{clean_text}
 
 record IsUntimed (life : Life Mutex) : Type 0 where
   mutex : Mutex
@@ -40,7 +40,7 @@ is_untimed Dead n = absurd n
 
 module _ (program : Program) (well : IsWellFormed program) (facts : Facts) (premises : Premises program facts) where
   may_be_untimed : (m : Cell) (mutex : Mutex) (location : Location) → location_of program m ≡ Some location → mutex.kind.is_timed ≡ false → Begun program m mutex.kind → MayBeUntimed program facts location
-  may_be_untimed m mutex location e n b = let l = located program facts premises b.run b.good b.thread b.point 0 A_mutex m (to_object program b.run b.thread b.point 0 m b.leads) in record {
+  may_be_untimed m mutex location e n b = let l = located program facts premises b.run b.good b.thread b.point 0 A_mutex m b.leads in record {
     thread = ((state_after program b.run).thread b.thread).origin;
     point = b.point;
     reachable = subst (IsReachable program ((state_after program b.run).thread b.thread).origin) b.leads.here_is
@@ -49,7 +49,7 @@ module _ (program : Program) (well : IsWellFormed program) (facts : Facts) (prem
     kind = mutex.kind;
     into = b.into;
     is_init = b.is_init;
-    candidate = subst (λ (x : Location). IsCandidateOf program facts b.point 0 A_mutex x) (same_location l.location location (sym l.here ∙ e)) l.candidate;
+    candidate = subst (λ (x : Location). IsCandidate program facts.names b.point 0 A_mutex x) (same_location l.location location (sym l.here ∙ e)) l.candidate;
     is_untimed = n;
   }
 

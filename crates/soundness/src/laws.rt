@@ -6,12 +6,12 @@ ghost use Rattle.c_program.specs.Laws.{ControlIsSound};
 ghost use Rattle.mutex_ownership.specs.Laws.{EachDepthIsPossible, HeldIsOrdered, IsHandedOver};
 ghost use Rattle.pointer_targets.specs.Escapes.{NoneEscapes};
 ghost use Rattle.pointer_targets.specs.Laws.{EachAddressIsAllowed, EachKeyIsAllowed, EachNameIsAllowed, NoneIsReachedByOthers};
-ghost use Rattle.thread_states.specs.Laws.{OrderedHappenInOrder, ThreadStatesArePossible, UnmadeIsPossible};
+ghost use Rattle.thread_states.specs.Laws.{DeadWhereClean, LiveWhereClean, OnlyMainReleases, OrderedHappenInOrder, ThreadStatesArePossible, UnmadeIsPossible};
 ghost use Rattle.static_facts.specs.Facts.{Facts};
-ghost use Rattle.guideline_silence.specs.Laws.{EachLinkIsAnEdge, EachWaitingCycleIsOfEdges, IsSilent};
-ghost use Rattle.soundness.specs.Texts.{IsOfText};
+ghost use Rattle.guideline_findings.specs.Silence.{IsSilent};
+ghost use Rattle.guideline_findings.specs.Texts.{IsOfText};
+ghost use Rattle.guideline_silence.specs.Laws.{EachLinkIsAnEdge, EachWaitingCycleIsOfEdges};
 ghost use Rattle.static_facts.specs.Analyses.{AreExact, AreSound};
-ghost use Rattle.soundness.specs.Laws.{DeadWhereClean, LiveWhereClean, OnlyMainReleases};
 
 use c_program::program::Program;
 

@@ -231,8 +231,8 @@ module _ (program : Program) (well : IsWellFormed program) (names : Names) (prem
   of_mark Detached = tt
 
   of_thread : (state : State) (held : Option ℕ) → IsStateOf A_thread (state_held state held)
-  of_thread now None = tt
-  of_thread now (Some thread) = of_mark (now.thread thread).mark
+  of_thread s None = tt
+  of_thread s (Some thread) = of_mark (s.thread thread).mark
 
   pub states_possible : ThreadStatesArePossible program names
   states_possible cell location at none run good control frames inside move s o =

@@ -1,4 +1,3 @@
-use Rattle.guideline_silence.proofs.Firsts.{clean_text}
 use Rattle.guideline_silence.proofs.TextSilence.{silent_orders, silent_touches, silent_objects}
 use Rattle.guideline_silence.proofs.laws.text.Goals as goal
 
@@ -9,7 +8,4 @@ pub returns-clause-touches : goal.returns-clause-touches
 returns-clause-touches c = λ facts. silent_touches c.args.program.now facts
 
 pub returns-clause-objects : goal.returns-clause-objects
-returns-clause-objects c = λ facts. silent_objects c.args.program.now c.requires.well_formed c.requires.named facts
-
-pub returns-clause-dependents : goal.returns-clause-dependents
-returns-clause-dependents c = λ facts guideline semantic clean. clean_text c.args.program.now facts guideline semantic clean
+returns-clause-objects c = λ facts. silent_objects c.args.program.now c.requires.well_formed c.requires.of_text facts
