@@ -10,14 +10,14 @@ use Rattle.static_facts.specs.Facts.{Facts}
 use Rattle.static_facts.specs.Analyses.{AreSound}
 use Rattle.guideline_findings.specs.Silence.{IsSilent}
 use Rattle.guideline_findings.specs.Texts.{IsOfText}
-use Rattle.mutex_ownership.proofs.OwnedSilence.{silent_ends as silent_thread_ends, silent_unlocks, silent_locks}
-use Rattle.thread_states.proofs.Clean.{silent_creations, silent_releases, silent_lives, silent_ends, silent_keys}
-use Rattle.guideline_silence.proofs.Given.{given}
-use Rattle.guideline_silence.proofs.TextSilence.{silent_orders, silent_touches, silent_objects}
-use Rattle.guideline_silence.proofs.RaceSilence.{silent_races}
-use Rattle.guideline_silence.proofs.CycleSilence.{silent_waits}
-use Rattle.guideline_silence.proofs.TimedSilence.{silent_timed}
-use Rattle.guideline_silence.proofs.ConditionSilence.{silent_conditions}
+use Rattle.guideline_findings.proofs.SilenceOfOwners.{silent_ends as silent_thread_ends, silent_unlocks, silent_locks}
+use Rattle.guideline_findings.proofs.SilenceOfThreads.{silent_creations, silent_releases, silent_lives, silent_ends, silent_keys}
+use Rattle.guideline_findings.proofs.Given.{given}
+use Rattle.guideline_findings.proofs.TextSilence.{silent_orders, silent_touches, silent_objects}
+use Rattle.guideline_findings.proofs.RaceSilence.{silent_races}
+use Rattle.guideline_findings.proofs.CycleSilence.{silent_waits}
+use Rattle.guideline_findings.proofs.TimedSilence.{silent_timed}
+use Rattle.guideline_findings.proofs.ConditionSilence.{silent_conditions}
 
 module _ (program : Program) (well : IsWellFormed program) (text : IsOfText program) (facts : Facts) (sound : AreSound program facts) where
   -- the companions are judged in the text, and no run breaks them

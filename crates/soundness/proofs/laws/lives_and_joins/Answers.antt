@@ -1,8 +1,8 @@
 use Rattle.pointer_targets.proofs.Told.{told}
-use Rattle.thread_states.proofs.SilenceOfLives.{unmade_possible}
-use Rattle.thread_states.proofs.SilenceOfReleases.{states_possible}
-use Rattle.thread_states.proofs.Joins.{only_main}
-use Rattle.thread_states.proofs.Clean.{live, dead}
+use Rattle.static_facts.proofs.Lifetimes.{unmade_possible}
+use Rattle.guideline_findings.proofs.SilenceOfReleases.{states_possible}
+use Rattle.guideline_findings.proofs.Joins.{only_main}
+use Rattle.guideline_findings.proofs.SilenceOfThreads.{live, dead}
 use Rattle.soundness.proofs.laws.lives_and_joins.Goals as goal
 
 pub returns-clause-unmade : goal.returns-clause-unmade

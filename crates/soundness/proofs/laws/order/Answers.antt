@@ -1,6 +1,6 @@
 use Rattle.pointer_targets.proofs.Told.{told}
-use Rattle.mutex_ownership.proofs.Held.{held_is_ordered}
-use Rattle.thread_states.proofs.Ordering.{in_order}
+use Rattle.static_facts.proofs.Held.{held_is_ordered}
+use Rattle.static_facts.proofs.Ordering.{in_order}
 use Rattle.soundness.proofs.laws.order.Goals as goal
 
 pub returns-clause-threads : goal.returns-clause-threads

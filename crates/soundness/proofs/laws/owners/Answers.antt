@@ -1,6 +1,6 @@
 use Rattle.pointer_targets.proofs.Told.{told}
-use Rattle.mutex_ownership.proofs.Handover.{handed_over}
-use Rattle.mutex_ownership.proofs.Possible.{possible}
+use Rattle.static_facts.proofs.Handover.{handed_over}
+use Rattle.static_facts.proofs.Possible.{possible}
 use Rattle.soundness.proofs.laws.owners.Goals as goal
 
 pub returns-clause-depths : goal.returns-clause-depths

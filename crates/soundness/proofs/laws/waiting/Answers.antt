@@ -1,5 +1,5 @@
-use Rattle.guideline_silence.proofs.Given.{given}
-use Rattle.guideline_silence.proofs.CycleSilence.{each_link, waiting_sound}
+use Rattle.guideline_findings.proofs.Given.{given}
+use Rattle.guideline_findings.proofs.CycleSilence.{each_link, waiting_sound}
 use Rattle.soundness.proofs.laws.waiting.Goals as goal
 
 pub returns-clause-links : goal.returns-clause-links
