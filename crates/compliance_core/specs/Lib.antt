@@ -3,3 +3,4 @@ pub mod Covers
 pub mod Laws
 pub mod Levels
 pub mod Patterns
+pub mod Plans
