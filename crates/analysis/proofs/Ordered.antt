@@ -29,51 +29,54 @@ places_of tokens = map (λ (token : Token). token.place) tokens
 
 some_behind : (place : Place) (p : Token → Bool) (tokens : List Token) → AllBehind place (places_of tokens) → AllBehind place (places_of (filter p tokens))
 some_behind place p [] h = tt
-some_behind place p (t ∷ ts) h = here (p t)
+some_behind place p (t ∷ ts) h = here (p t) h.0 (some_behind place p ts h.1)
   where
-    more : AllBehind place (places_of (filter p ts))
-    more = some_behind place p ts h.1
-    here : (b : Bool) → AllBehind place (places_of (cond b (t ∷ filter p ts) (filter p ts)))
-    here true = (h.0, more)
-    here false = more
+    here : (b : Bool) → place_cmp place t.place ≡ Less → AllBehind place (places_of (filter p ts)) → AllBehind place (places_of (cond b (t ∷ filter p ts) (filter p ts)))
+    here true first more = (first, more)
+    here false first more = more
+
+one_more : (b : Bool) (t : Token) (ts : List Token) → AllBehind t.place (places_of ts) → Rise (places_of ts) → Rise (places_of (cond b (t ∷ ts) ts))
+unfolding IsStrictlySortedBy
+one_more true t ts behind rise = (behind, rise)
+one_more false t ts behind rise = rise
 
 some_rise : (p : Token → Bool) (tokens : List Token) → Rise (places_of tokens) → Rise (places_of (filter p tokens))
 unfolding IsStrictlySortedBy
 some_rise p [] h = tt
-some_rise p (t ∷ ts) h = here (p t)
-  where
-    here : (b : Bool) → Rise (places_of (cond b (t ∷ filter p ts) (filter p ts)))
-    here true = (some_behind t.place p ts h.0, some_rise p ts h.1)
-    here false = some_rise p ts h.1
+some_rise p (t ∷ ts) h = one_more (p t) t (filter p ts) (some_behind t.place p ts h.0) (some_rise p ts h.1)
 
 -- ---- the findings of some of the calls
 
 abbrev call_places : List Call → List Place
 call_places calls = map (λ (call : Call). call.place) calls
 
-before_all : (f : Finding) (mutexes : List (List ℕ)) (before calls : List Call) → AllBehind f.place (call_places calls)
-    → AllByRecursion (λ (g : Finding). finding_cmp f g ≡ Less) (findings_from mutexes before calls)
-before_all f mutexes before [] h = tt
-before_all f mutexes before (c ∷ cs) h = here (is_unlock c.operation && is_possible c.mutex before 0)
-  where
-    less : finding_cmp f (unlock_finding mutexes c) ≡ Less
-    less = rw h.0 refl
-    more : AllByRecursion (λ (g : Finding). finding_cmp f g ≡ Less) (findings_from mutexes (c ∷ before) cs)
-    more = before_all f mutexes (c ∷ before) cs h.1
-    here : (b : Bool) → AllByRecursion (λ (g : Finding). finding_cmp f g ≡ Less) (cond b (unlock_finding mutexes c ∷ []) [] ++ findings_from mutexes (c ∷ before) cs)
-    here true = (less, more)
-    here false = more
+abbrev AllAfter : Finding → List Finding → Type 0
+AllAfter f found = AllByRecursion (λ (g : Finding). finding_cmp f g ≡ Less) found
+
+by_place : (f : Finding) (mutexes : List (List ℕ)) (c : Call) → place_cmp f.place c.place ≡ Less → finding_cmp f (unlock_finding mutexes c) ≡ Less
+by_place f mutexes c less = rw less refl
+
+after_with : (b : Bool) (f g : Finding) (found : List Finding) → finding_cmp f g ≡ Less → AllAfter f found → AllAfter f (cond b (g ∷ []) [] ++ found)
+after_with true f g found less more = (less, more)
+after_with false f g found less more = more
+
+after_all : (f : Finding) (mutexes : List (List ℕ)) (before calls : List Call) → AllBehind f.place (call_places calls) → AllAfter f (findings_from mutexes before calls)
+after_all f mutexes before [] h = tt
+after_all f mutexes before (c ∷ cs) h =
+    after_with (is_unlock c.operation && is_possible c.mutex before 0) f (unlock_finding mutexes c) (findings_from mutexes (c ∷ before) cs)
+    (by_place f mutexes c h.0) (after_all f mutexes (c ∷ before) cs h.1)
+
+in_order_with : (b : Bool) (f : Finding) (found : List Finding) → AllAfter f found → findings_in_order found → findings_in_order (cond b (f ∷ []) [] ++ found)
+unfolding IsStrictlySortedBy
+in_order_with true f found behind rise = (behind, rise)
+in_order_with false f found behind rise = rise
 
 found_rise : (mutexes : List (List ℕ)) (before calls : List Call) → Rise (call_places calls) → findings_in_order (findings_from mutexes before calls)
 unfolding IsStrictlySortedBy
 found_rise mutexes before [] h = tt
-found_rise mutexes before (c ∷ cs) h = here (is_unlock c.operation && is_possible c.mutex before 0)
-  where
-    more : findings_in_order (findings_from mutexes (c ∷ before) cs)
-    more = found_rise mutexes (c ∷ before) cs h.1
-    here : (b : Bool) → findings_in_order (cond b (unlock_finding mutexes c ∷ []) [] ++ findings_from mutexes (c ∷ before) cs)
-    here true = (before_all (unlock_finding mutexes c) mutexes (c ∷ before) cs h.0, more)
-    here false = more
+found_rise mutexes before (c ∷ cs) h =
+    in_order_with (is_unlock c.operation && is_possible c.mutex before 0) (unlock_finding mutexes c) (findings_from mutexes (c ∷ before) cs)
+    (after_all (unlock_finding mutexes c) mutexes (c ∷ before) cs h.0) (found_rise mutexes (c ∷ before) cs h.1)
 
 pub in_order : PlacesRise → FindingsAreInOrder
 in_order rise text p is =
