@@ -1,8 +1,9 @@
 -- `check` does what its record says, by how it ends.
-use Rattle.std.proofs.Common.{◌≡◌, ◌≤◌, ◌⊎◌, inl, inr, ℕ, List, [], take, None, Some, IfSome, refl, sym, subst, ◌∙◌, arith}
+use Rattle.std.proofs.Common.{◌≡◌, ◌≤◌, ◌⊎◌, inl, inr, ℕ, List, [], take, None, Some, IfSome, Result, Err, refl, sym, subst, ◌∙◌, arith}
 use Rattle.std.specs.declared.option.Option.{Option}
 use Rattle.std.specs.Io.KnownBytes.{Consumes}
 use Rattle.desk_outside.specs.Causes.{Rose}
+use Rattle.desk_outside.specs.Devices.{contents_of}
 use Rattle.analysis.specs.Form.{Program}
 use Rattle.analysis.specs.Faults.{IsSupportedAs}
 use Rattle.analysis.specs.Findings.{findings_of}
@@ -52,11 +53,14 @@ bytes_answered laws bytes old new piece own status is read wrote = record {
   where
     text : List ℕ
     text = text_of bytes
+
     answer : status ≤ 2 → WritesAnswer (text_of bytes) status old.output new.output
     answer low =
         (piece, subst (λ (s : ℕ). IsAnswer (text_of bytes) piece s) (sym (own_status own status wrote.ends low)) is, wrote.whole (omega (arith, low)))
+
     supported : (p : Program) → IsSupportedAs (text_of bytes) p → status ≤ 2 → WritesReport p status old.output new.output
     supported p s low = report_of_supported laws.one_program laws.no_fault (text_of bytes) status old.output new.output (answer low) p s
+
     no_fault : (status ≡ own) ⊎ (status ≡ 5) ⊎ (status ≡ 8) → status ≡ 4 → ⊥
     no_fault (inl e) four = omega (arith, e, four, wrote.low)
     no_fault (inr (inl e)) four = omega (arith, e, four)
@@ -85,10 +89,18 @@ answered laws contents old new answer piece own status same is read stay wrote =
     statuses (inl e) = inl (omega (arith, e, wrote.low))
     statuses (inr (inl e)) = inr (inr (inl e))
     statuses (inr (inr e)) = inr (inr (inr e))
+
     not_four : (status ≡ own) ⊎ (status ≡ 5) ⊎ (status ≡ 8) → status ≡ 4 → ⊥
     not_four (inl e) four = omega (arith, e, four, wrote.low)
     not_four (inr (inl e)) four = omega (arith, e, four)
     not_four (inr (inr e)) four = omega (arith, e, four)
+
+-- the text was not read to its end, or there was no memory
+no_answer : (status : ℕ) → (status ≡ 4) ⊎ (status ≡ 8) → (status ≤ 2) ⊎ (status ≡ 5) → ⊥
+no_answer status (inl four) (inl low) = omega (arith, four, low)
+no_answer status (inl four) (inr five) = omega (arith, four, five)
+no_answer status (inr eight) (inl low) = omega (arith, eight, low)
+no_answer status (inr eight) (inr five) = omega (arith, eight, five)
 
 -- the files failed
 pub failed : (contents : Option (List ℕ)) (old new : Seen) → Rose old.files.faults new.files.faults → WritesLine old.output new.output [] file_fault_line
@@ -110,15 +122,11 @@ failed contents old new rose line = record {
       refused = λ fault first low. absurd (omega (arith, low));
       clean = λ p s e. absurd (omega (arith, e));
       found = λ p s e. absurd (omega (arith, e));
-      read = λ ends. absurd (no_end ends);
+      read = λ ends. absurd (no_answer 4 (inl refl) ends);
       file_fault = λ e. line;
       output_fault = λ e. absurd (omega (arith, e));
       no_memory = λ e. absurd (omega (arith, e));
     }
-      where
-        no_end : (4 ≤ 2) ⊎ (4 ≡ 5) → ⊥
-        no_end (inl low) = omega (arith, low)
-        no_end (inr e) = omega (arith, e)
 
 -- there was no memory to read or to judge the text
 pub no_memory : (contents : Option (List ℕ)) (old new : Seen) → new.files.faults ≡ old.files.faults → WritesLine old.output new.output [] memory_line
@@ -140,12 +148,17 @@ no_memory contents old new stay line = record {
       refused = λ fault first low. absurd (omega (arith, low));
       clean = λ p s e. absurd (omega (arith, e));
       found = λ p s e. absurd (omega (arith, e));
-      read = λ ends. absurd (no_end ends);
+      read = λ ends. absurd (no_answer 8 (inr refl) ends);
       file_fault = λ e. absurd (omega (arith, e));
       output_fault = λ e. absurd (omega (arith, e));
       no_memory = λ e. ([], inl refl, line);
     }
-      where
-        no_end : (8 ≤ 2) ⊎ (8 ≡ 5) → ⊥
-        no_end (inl low) = omega (arith, low)
-        no_end (inr e) = omega (arith, e)
+
+-- a file by another word for its name
+pub by_same_name : (named : Option (List ℕ → Option (List ℕ))) (a b : List ℕ) (old new : Seen) (status : ℕ) → a ≡ b
+    → Checks (contents_of named a) old new status → Checks (contents_of named b) old new status
+by_same_name named a b old new status same checks = subst (λ (name : List ℕ). Checks (contents_of named name) old new status) same checks
+
+-- an error by another word for its cause
+pub by_same_stop : {T E : Type 0} (result : Result T E) (a b : E) → result ≡ Err a → a ≡ b → result ≡ Err b
+by_same_stop result a b is same = cc

@@ -1,5 +1,5 @@
 use Rattle.std.proofs.Common.{refl}
-use Rattle.misra_desk.proofs.Checking.{answered, failed, no_memory}
+use Rattle.misra_desk.proofs.Checking.{answered, failed, no_memory, by_same_stop}
 use Rattle.misra_desk.proofs.run.check.Goals as goal
 
 pub returns-in-Ok : goal.returns-in-Ok
@@ -18,7 +18,7 @@ returns-in-Ok g c =
     })
 
 pub returns-in-Err-Failed : goal.returns-in-Err-Failed
-returns-in-Err-Failed g c = failed _ _ _ (c.in-Err-Failed.ensures.cause.failed refl) c.put_line.ensures
+returns-in-Err-Failed g c = failed _ _ _ (c.in-Err-Failed.ensures.cause.failed (by_same_stop _ _ _ refl c.in-Err-Failed.field-0-is)) c.put_line.ensures
 
 pub returns-in-Err-Memory : goal.returns-in-Err-Memory
-returns-in-Err-Memory g c = rw c.out_of_memory.ensures.status (no_memory _ _ _ (c.in-Err-Memory.ensures.memory refl) c.out_of_memory.ensures.line)
+returns-in-Err-Memory g c = rw c.out_of_memory.ensures.status (no_memory _ _ _ (c.in-Err-Memory.ensures.memory (by_same_stop _ _ _ refl c.in-Err-Memory.field-0-is)) c.out_of_memory.ensures.line)
