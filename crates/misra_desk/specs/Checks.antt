@@ -55,14 +55,11 @@ pub record ChecksBytes (bytes : List ℕ) (old new : Seen) (status : ℕ) : Type
   pub answer : status ≤ 2 → WritesAnswer (text_of bytes) status old.output new.output
   pub supported : (p : Program) → IsSupportedAs (text_of bytes) p → status ≤ 2 → WritesReport p status old.output new.output
   pub refused : (fault : Refusal) → IsFirstFault (text_of bytes) fault → status ≤ 2 → WritesRefusal fault status old.output new.output
-
   -- with 0 no run of the text breaks a guideline that is judged, with 1 none that the report shows clean
   pub clean : (p : Program) → IsSupportedAs (text_of bytes) p → status ≡ 0 → AreAllKept p
   pub found : (p : Program) → IsSupportedAs (text_of bytes) p → status ≡ 1 → IsSilenceKept p
-
   -- the file was read once: what is left of it stands behind the text
   pub read : (status ≤ 2) ⊎ (status ≡ 5) → Consumes (Some bytes) new.files.left (text_of bytes)
-
   -- a fault of the files has its line alone; a fault of the output leaves a front of the answer, and want of memory has its line behind one
   pub file_fault : status ≡ 4 → WritesLine old.output new.output [] file_fault_line
   pub output_fault : status ≡ 5 → (front : List ℕ) × IsFront (text_of bytes) front × Writes old.output new.output front
@@ -71,7 +68,6 @@ pub record ChecksBytes (bytes : List ℕ) (old new : Seen) (status : ℕ) : Type
 -- `check` of a file whose bytes are these, where they are told
 pub record Checks (contents : Option (List ℕ)) (old new : Seen) (status : ℕ) : Type 0 where
   pub statuses : (status ≤ 2) ⊎ (status ≡ 4) ⊎ (status ≡ 5) ⊎ (status ≡ 8)
-
   -- 4 comes exactly where the count of the files rose, and 5 only where that of the output rose
   pub files_rose : status ≡ 4 → Rose old.files.faults new.files.faults
   pub files_stayed : status ≢ 4 → new.files.faults ≡ old.files.faults
@@ -86,7 +82,6 @@ pub record ShowsUsage (old new : Seen) (status : ℕ) : Type 0 where
   pub files_stay : new.files ≡ old.files
   pub output_rose : status ≡ 5 → Rose old.output.faults new.output.faults
   pub output_stayed : status ≡ 3 → new.output.faults ≡ old.output.faults
-
   -- 3 comes with the whole line; a fault of the output leaves a front of it, and want of memory has its line behind one
   pub usage : status ≡ 3 → Writes old.output new.output usage_line
   pub output_fault : status ≡ 5 → (n : ℕ) × Writes old.output new.output (take n usage_line)
