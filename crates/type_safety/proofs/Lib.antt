@@ -8,3 +8,4 @@ pub mod Acting
 pub mod Acts
 pub mod Calling
 pub mod Typed
+pub mod States
