@@ -255,7 +255,7 @@ module _ (here : Here) (timed : starts_with_timespec here.program here.program.s
     library_good (lib.ThreadCreate o f e) into values t = let a = and_true _ _ t in let p = and_true _ _ a.0 in let b = and_true _ _ a.1 in let q = and_true _ _ b.0 in
         one_judged _ G _ values _ (λ z. with_judged _ G (OfType here memory thread_type) (PlaceFails here thread_type o) Plain (place_at here thread_type o) _ (placed here memory thread_type o p.0) inl (λ object _ _.
         with_judged _ G IsPointer (Fails here e) (Creates object f null z) (eval here e) _ (pointed here memory e p.1) inr (λ v _ k.
-        asks_good _ into (Number z) (Creates object f v z) (into_fits here.program into (A_number Int) (Number z) b.1 tt) (k, q.1))))
+        asks_good _ into (Number z) (Creates object f v z) (into_fits here.program into (A_number Int) (Number z) b.1 tt) ((k, q.1), q.0))))
     library_good (lib.ThreadJoin o e) into values t = let a = and_true _ _ t in let p = and_true _ _ a.0 in
         none_judged _ G values _ (with_judged _ G (OfType here memory thread_type) (PlaceFails here thread_type o) Plain (place_at here thread_type o) _ (placed here memory thread_type o p.0) inl (λ object _ _.
         widened _ _ G _ inr (join_good object into (Fails here e) (eval here e) a.1 (pointed here memory e p.1))))

@@ -14,7 +14,7 @@ use Rattle.c_program.specs.Types.{is_zero, is_in, is_scalar, same_type, declared
 use Rattle.c_program.specs.Values.{Cell, Value, Number, Address, type_of_cell}
 use Rattle.c_program.specs.Evaluation.{Here, eval, eval_all, place_at, object_at_type}
 use Rattle.c_program.specs.Requests.{Load, Store, Sets, Copies, Clears, Zeroes, Request, Plain, Creates, Joins, Sets_key, Gets_key, Turn, Goes, Enters, Leaves, Exits, Ask, Asked, Not_so, No_meaning, Asks, with_for, meant_for, if_so, no_value, one_value, further}
-use Rattle.c_program.specs.Typing.{Kind, Wrong, A_literal, A_number, A_pointer, An_address, is_number, is_pointer, is_right, kind_of, kind_of_type, kind_held, takes, gets, has_type, local_is, local_gets, into_gets, result_of, takes_a_pointer}
+use Rattle.c_program.specs.Typing.{Kind, Wrong, A_literal, A_number, A_pointer, An_address, is_number, is_pointer, is_right, kind_of, kind_of_type, kind_held, takes, gets, has_type, local_is, local_gets, into_gets, result_of, takes_a_pointer, answers_int}
 use Rattle.c_program.specs.Syntax.{parameters_at}
 use Rattle.c_program.proofs.Cells.{and_true}
 use Rattle.type_safety.specs.Fitting.{IsPointer, IsNumber, Fits, OptFits, MemoryFits}
@@ -55,7 +55,7 @@ module _ (program : Program) where
   IntoGets (Some local) (Some v) = LocalGets local v
 
   abbrev pub RequestFits : Option LocalOf → Request → Type 0
-  RequestFits into (Creates object function v result) = IsPointer v × (takes_a_pointer program (parameters_at program function) ≡ true)
+  RequestFits into (Creates object function v result) = (IsPointer v × (takes_a_pointer program (parameters_at program function) ≡ true)) × (answers_int program function ≡ true)
   RequestFits into (Joins object None) = Unit {0}
   RequestFits into (Joins object (Some cell)) = (v : Value) → IsNumber v → CellGets cell v
   RequestFits into (Sets_key k v) = IsPointer v

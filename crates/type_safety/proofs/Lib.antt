@@ -9,3 +9,4 @@ pub mod Acts
 pub mod Calling
 pub mod Typed
 pub mod States
+pub mod Controls
