@@ -167,7 +167,7 @@ module _ (program : Program) where
 
   -- ---- the ends of functions
 
-  no_frames : (result : CType) (control : Control) → ControlFits result control [] → ⊥
+  pub no_frames : (result : CType) (control : Control) → ControlFits result control [] → ⊥
   no_frames result [] f = f
   no_frames result (Run s ∷ rest) f = no_frames result rest f.1
   no_frames result (In_first a b ∷ rest) f = no_frames result rest f.1

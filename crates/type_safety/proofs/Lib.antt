@@ -10,3 +10,4 @@ pub mod Calling
 pub mod Typed
 pub mod States
 pub mod Controls
+pub mod Steps
