@@ -11,3 +11,4 @@ pub mod Typed
 pub mod States
 pub mod Controls
 pub mod Steps
+pub mod Runs
