@@ -1,35 +1,26 @@
 -- Each typed action but a library call.
-use Rattle.std.proofs.Common.{◌≡◌, ◌⊎◌, inl, inr, refl, sym, subst, ap, ◌∙◌, Bool, true, false, not, cond, ◌&&◌, ◌||◌, ◌==◌, ℕ, ℤ, List, [], ◌∷◌, Option, Some, None, eqb-true}
-use Rattle.std.specs.Prelude.{pos, option_map, option_and_then, unwrap_or, is_none, is_some}
-use Rattle.std.specs.List.{list_all}
+use Rattle.std.proofs.Common.{◌≡◌, refl, subst, ◌∙◌, Bool, true, false, ◌&&◌, ◌||◌, ◌==◌, ℕ, ℤ, List, [], ◌∷◌, Option, Some, None, eqb-true}
+use Rattle.std.specs.Prelude.{option_map, unwrap_or, is_none}
 use Rattle.c_program.specs.declared.types.CType.{CType}
 use Rattle.c_program.specs.declared.types.Base.{Base}
 use Rattle.c_program.specs.declared.types.Base.TheVariants as base
 use Rattle.c_program.specs.declared.types.Integer.{Integer as IntegerType}
-use Rattle.c_program.specs.declared.types.Integer.TheVariants.{Int}
-use Rattle.c_program.specs.declared.expression.BinaryOperator.{BinaryOperator}
 use Rattle.c_program.specs.declared.expression.Expr.{Expr}
 use Rattle.c_program.specs.declared.action.Local.{Local as LocalOf}
-use Rattle.c_program.specs.declared.action.Part.{Part}
-use Rattle.c_program.specs.declared.action.Clause.{Clause}
 use Rattle.c_program.specs.declared.program.Program.{Program}
-use Rattle.c_program.specs.Syntax.{c_int, parameters_at}
-use Rattle.c_program.specs.Types.{is_zero, is_in, is_scalar, is_scalar_in, is_scalar_base, is_atomic, same_bool, same_bools, same_base, same_integer, same_pointers, same_numbers, same_type, plain_type, converted, declared_type, type_at, holds_library}
-use Rattle.c_program.specs.Values.{Cell, Value, Number, Address, type_of_cell, arithmetic, truth}
-use Rattle.c_program.specs.Evaluation.{Here, root_of, whole, eval, eval_all, place_at, object_at_type, is_true}
-use Rattle.c_program.specs.Requests.{Load, Store, Sets, Copies, Clears, Zeroes, Request, Plain, Declares, Touches, Turn, Goes, Enters, Leaves, Ask, Asked, Asks, with_for, meant_for, if_so, no_value, further, may_write, is_initialiser, local_cell, read_of, reads, number_in, number_of_value, part_at, filled_by, fills, filled, unless_library, external, leaves, clause_of, atomic_load}
-use Rattle.c_program.specs.Typing.{Kind, Wrong, A_literal, A_number, A_pointer, An_address, is_number, is_pointer, is_condition, is_right, is_number_at, is_comparison, link_kind, kind_of, kind_in, kind_of_type, kind_held, takes_in, takes_number, takes, gets_in, gets_number, gets, has_type, local_is, local_gets, into_gets, is_structure_in, is_structure_base, is_structure, part_is_typed, arguments_are_typed, external_is_typed}
+use Rattle.c_program.specs.Types.{is_scalar, is_scalar_in, same_bool, same_bools, same_base, same_pointers, same_numbers, same_type, plain_type}
+use Rattle.c_program.specs.Values.{Cell, Value, Number, Address, type_of_cell}
+use Rattle.c_program.specs.Evaluation.{Here, eval}
+use Rattle.c_program.specs.Requests.{local_cell, number_in, number_of_value}
+use Rattle.c_program.specs.Typing.{Kind, Wrong, A_literal, A_number, A_pointer, An_address, is_number, is_right, kind_of, kind_of_type, takes_in, gets_in, local_is, into_gets, is_structure_in}
 use Rattle.c_program.proofs.Cells.{and_true, numbers_same}
-use Rattle.c_program.proofs.Logic.{or_false}
-use Rattle.type_safety.specs.Fitting.{IsPointer, IsNumber, Fits, OptFits, MemoryFits}
-use Rattle.type_safety.specs.Causes.{is_of_type, Unusable, Dead, ArithmeticFails, Fails}
-use Rattle.type_safety.specs.ActionCauses.{UnusableAt, PlaceFails, IsUnset, IsConst, AnyFails, ComputesNothing, PartFails, PartsFail}
-use Rattle.type_safety.proofs.Comes.{Comes, weaker, then_, some, none}
-use Rattle.type_safety.proofs.OfKinds.{number_is, pointer_is, scalar_right, takes_fits, gets_fits}
+use Rattle.type_safety.specs.Fitting.{IsNumber, Fits, OptFits, MemoryFits}
+use Rattle.type_safety.specs.Causes.{is_of_type, Fails}
+use Rattle.type_safety.proofs.Comes.{Comes}
+use Rattle.type_safety.proofs.OfKinds.{number_is, gets_fits}
 use Rattle.type_safety.proofs.Shapes.{to_own, from_own, scalar_own}
-use Rattle.type_safety.proofs.Arithmetic.{Done, computed, link_is}
-use Rattle.type_safety.proofs.Evaluating.{UsedAt, used, type_of_own, truthful, evaluated}
-use Rattle.type_safety.proofs.Judging.{CellGets, Alike, StoreFits, EachStoreFits, LocalGets, IntoGets, RequestFits, ArgumentsFit, TurnFits, AskFits, Judged, with_judged, meant_judged, so_judged, none_judged, one_judged, if_judged, asks_judged, further_judged, OfType, placed, pointed, numbered}
+use Rattle.type_safety.proofs.Evaluating.{type_of_own, evaluated}
+use Rattle.type_safety.proofs.Judging.{CellGets, Alike, IntoGets}
 
 -- ---- tests
 

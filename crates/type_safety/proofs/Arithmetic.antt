@@ -10,9 +10,8 @@ use Rattle.c_program.specs.declared.expression.BinaryOperator.TheVariants.{Multi
 use Rattle.c_program.specs.declared.program.Program.{Program}
 use Rattle.c_program.specs.Types.{is_zero, is_signed, is_in, bits, converted}
 use Rattle.c_program.specs.Values.{Value, Number, in_type, shifted_left, shift, divided, arithmetic, unary}
-use Rattle.c_program.specs.Evaluation.{on_number, on_numbers, operated}
-use Rattle.c_program.specs.Typing.{Kind, Wrong, A_literal, A_number, A_pointer, An_address, is_number, is_number_at, is_right, kind_if, promotes_to, converts_to, is_shift, is_comparison, unary_kind, link_kind}
-use Rattle.c_program.proofs.Cells.{and_true}
+use Rattle.c_program.specs.Evaluation.{on_number, operated}
+use Rattle.c_program.specs.Typing.{Kind, Wrong, A_literal, A_number, A_pointer, An_address, is_number, is_number_at, is_right, kind_if, promotes_to, converts_to, is_shift, is_comparison, link_kind}
 use Rattle.type_safety.specs.Fitting.{IsNumber, Fits}
 use Rattle.type_safety.specs.Causes.{CountIsOutside, ShiftFails, QuotientFails, ArithmeticFails, OperatorFails, NegationFails}
 use Rattle.type_safety.proofs.Comes.{Comes, self, mapped}

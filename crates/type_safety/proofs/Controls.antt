@@ -1,12 +1,10 @@
 -- What a thread has left to do is typed: each action for its function, and each call's result for the local that gets it.
-use Rattle.std.proofs.Common.{◌≡◌, ◌⊎◌, inl, inr, refl, sym, subst, ap, ◌∙◌, Bool, true, false, cond, ◌&&◌, ℕ, zero, suc, nat_lt, List, [], ◌∷◌, ◌++◌, Option, Some, None}
+use Rattle.std.proofs.Common.{◌≡◌, refl, Bool, true, false, ℕ, nat_lt, List, [], ◌∷◌, ◌++◌, Option, Some, None}
 use Rattle.std.specs.Prelude.{slice_get, option_map, unwrap_or}
 use Rattle.std.specs.List.{list_all}
 use Rattle.c_program.specs.declared.types.CType.{CType}
 use Rattle.c_program.specs.declared.types.Base.TheVariants.{Void}
-use Rattle.c_program.specs.declared.action.Local.{Local}
 use Rattle.c_program.specs.declared.statement.Condition.{Condition, Test, And', Or', Row_of-Condition, more_of-Condition, end_of-Condition}
-use Rattle.c_program.specs.declared.statement.Counter.{Counter}
 use Rattle.c_program.specs.declared.statement.Statement.{Statement, Do, Block', Switch', Break, Continue, Row_of-Statement, end_of-Statement, more_of-Statement}
 use Rattle.c_program.specs.declared.program.Function.{Function}
 use Rattle.c_program.specs.declared.program.Program.{Program}
@@ -15,9 +13,9 @@ use Rattle.c_program.specs.Types.{same_type, plain_type}
 use Rattle.c_program.specs.Control.{Run, In_first, In_second, Before_turn, In_turn, In_switch, Behind, Control, Move, Ways, run_all, clauses, if_all, if_any, enter, enter_all, decide, decide_and, decide_or, ways, moves, move_at, returned}
 use Rattle.c_program.specs.State.{Frame}
 use Rattle.c_program.specs.Paths.{actions_of, actions_of_all, actions_of_condition, actions_of_conditions}
-use Rattle.c_program.specs.Typing.{Kind, kind_of_type, kind_held, result_of, into_gets, act_is_typed, function_is_typed, is_typed, object_is_typed, answers_int, is_scalar_object}
+use Rattle.c_program.specs.Typing.{kind_of_type, kind_held, result_of, into_gets, act_is_typed, function_is_typed, is_typed, answers_int}
 use Rattle.c_program.proofs.Cells.{and_true}
-use Rattle.c_program.proofs.Members.{In, Each, each_left, each_right, each_append, each_in, in_got}
+use Rattle.c_program.proofs.Members.{Each, each_left, each_right, each_append, each_in, in_got}
 use Rattle.c_program.proofs.Sound.{if_either}
 
 -- ---- lists of tests
@@ -153,8 +151,14 @@ module _ (program : Program) where
     ways_fit (In_second a b ∷ rest) f = let below = ways_fit rest f.1 in
         record { here = enter_fits (Loop a b) rest (ways rest) (each_append (ActionFits result) (actions_of a) (actions_of b) f.0.0 f.0.1) f.1 below; out = below.here; again = tt }
     ways_fit (Before_turn counter body turn ∷ rest) f = record {
-      here = ((f.0.1.0, if_either (λ (c : Control). ControlFits result c frames) (nat_lt turn counter.turns) (Run body ∷ In_turn counter body turn ∷ rest) rest
-          (λ _. (f.0.1.1.1, (f.0, f.1))) (λ _. f.1)), tt);
+      here = (
+        (
+          f.0.1.0,
+          if_either (λ (c : Control). ControlFits result c frames) (nat_lt turn counter.turns) (Run body ∷ In_turn counter body turn ∷ rest) rest
+              (λ _. (f.0.1.1.1, (f.0, f.1))) (λ _. f.1),
+        ),
+        tt,
+      );
       out = tt;
       again = tt;
     }

@@ -1,5 +1,5 @@
 -- An expression that has a form has a value of its kind, or a cause for having none.
-use Rattle.std.proofs.Common.{◌≡◌, ◌⊎◌, inl, inr, refl, sym, subst, ap, ◌∙◌, Bool, true, false, not, cond, ◌&&◌, ℕ, ℤ, List, [], ◌∷◌, Option, Some, None}
+use Rattle.std.proofs.Common.{◌≡◌, ◌⊎◌, inl, inr, refl, sym, subst, ap, ◌∙◌, Bool, true, false, cond, ◌&&◌, ℕ, ℤ, List, [], ◌∷◌, Option, Some, None}
 use Rattle.std.specs.Prelude.{pos, ◌+ℤ◌, ◌-ℤ◌, option_map, option_and_then}
 use Rattle.c_program.specs.declared.types.CType.{CType}
 use Rattle.c_program.specs.declared.types.Base.TheVariants.{Structure}
@@ -13,17 +13,17 @@ use Rattle.c_program.specs.declared.expression.Step.{Step, Indirection, Member}
 use Rattle.c_program.specs.declared.program.Storage.{Storage}
 use Rattle.c_program.specs.declared.program.Storage.TheVariants as storage
 use Rattle.c_program.specs.Syntax.{Unary, Same, Choose, Convert, Element, Forward, Back}
-use Rattle.c_program.specs.Types.{is_zero, converted, same_type, plain_type, type_at, declared_type, member_type}
-use Rattle.c_program.specs.Values.{Root, Cell, Value, Number, Address, object_of, part, type_of_cell, truth, unary}
-use Rattle.c_program.specs.Evaluation.{Here, root_in, root_of, whole, object_at_type, sizes_of, within_bounds, at_part, element, moved_in, moved_by, forward, back, is_true, is_comparable, same, same_value, on_number, both, either, choose, of_two, operated, eval, along, stepped, chained, all_of, any_of}
-use Rattle.c_program.specs.Typing.{Kind, Wrong, A_literal, A_number, A_pointer, An_address, is_number, is_pointer, is_condition, is_right, is_void, kind_if, kind_of_type, kind_held, address_of, element_in, element_kind, unary_kind, link_kind, promotes_to, joined, joined_numbers, is_shift, kind_of, kind_along, kind_stepped, kind_chained, are_conditions}
+use Rattle.c_program.specs.Types.{is_zero, converted, plain_type, type_at, declared_type, member_type}
+use Rattle.c_program.specs.Values.{Root, Cell, Value, Number, Address, object_of, type_of_cell, truth, unary}
+use Rattle.c_program.specs.Evaluation.{Here, root_in, root_of, whole, object_at_type, sizes_of, within_bounds, at_part, element, moved_in, moved_by, forward, back, is_comparable, same, same_value, on_number, both, either, choose, of_two, operated, eval, along, stepped, chained, all_of, any_of}
+use Rattle.c_program.specs.Typing.{Kind, Wrong, A_literal, A_number, A_pointer, An_address, is_number, is_pointer, is_condition, is_right, kind_if, kind_of_type, kind_held, address_of, element_in, element_kind, unary_kind, link_kind, promotes_to, joined, joined_numbers, is_shift, kind_of, kind_along, kind_stepped, kind_chained, are_conditions}
 use Rattle.c_program.proofs.Cells.{and_true}
 use Rattle.type_safety.specs.Fitting.{IsPointer, IsNumber, Fits, OptFits, MemoryFits}
 use Rattle.type_safety.specs.Causes.{is_of_type, Unusable, Dead, IsOutside, IndexFails, MovesOut, MoveFails, onward, backward, OperatorFails, NegationFails, truth_of, IfTrue, IfFalse, Fails, FailsAlong, FailsFrom, FailsChained, AllFail, AnyFail}
 use Rattle.type_safety.proofs.Comes.{Comes, weaker, mapped, then_, if_, some, onward as go_on}
-use Rattle.type_safety.proofs.OfKinds.{le_refl, kind_if_right, number_is, pointer_is, scalar_right, both_fit, Either}
+use Rattle.type_safety.proofs.OfKinds.{le_refl, kind_if_right, number_is, pointer_is, scalar_right, both_fit}
 use Rattle.type_safety.proofs.Shapes.{sizes_are, member_is, element_is, moved_is}
-use Rattle.type_safety.proofs.Arithmetic.{operator, sign, promotes, LinkIs, link_is}
+use Rattle.type_safety.proofs.Arithmetic.{operator, sign, promotes, link_is}
 
 pub root_object : (here : Here) (s : Storage) (object : ℕ) → object_of (root_in here s object) ≡ object
 root_object here storage.Static object = refl

@@ -1,28 +1,22 @@
 -- What a typed action asks for fits, or it has a cause for having no meaning.
-use Rattle.std.proofs.Common.{◌≡◌, ◌⊎◌, inl, inr, refl, sym, subst, ap, ◌∙◌, Bool, true, false, not, cond, ◌&&◌, ◌||◌, ◌==◌, ℕ, ℤ, List, [], ◌∷◌, ◌++◌, Option, Some, None}
-use Rattle.std.specs.Prelude.{pos, option_map, option_and_then, unwrap_or, is_none, is_some}
-use Rattle.std.specs.List.{list_all}
+use Rattle.std.proofs.Common.{◌≡◌, ◌⊎◌, inl, inr, refl, Bool, true, false, cond, ℕ, ℤ, List, [], ◌∷◌, Option, Some, None}
+use Rattle.std.specs.Prelude.{option_and_then}
 use Rattle.c_program.specs.declared.types.CType.{CType}
-use Rattle.c_program.specs.declared.types.Base.{Base}
 use Rattle.c_program.specs.declared.types.Base.TheVariants as base
-use Rattle.c_program.specs.declared.types.Integer.{Integer as IntegerType}
 use Rattle.c_program.specs.declared.expression.Expr.{Expr}
 use Rattle.c_program.specs.declared.action.Local.{Local as LocalOf}
 use Rattle.c_program.specs.declared.program.Program.{Program}
-use Rattle.c_program.specs.Syntax.{c_int}
-use Rattle.c_program.specs.Types.{is_zero, is_in, is_scalar, same_type, declared_type, type_at}
-use Rattle.c_program.specs.Values.{Cell, Value, Number, Address, type_of_cell}
-use Rattle.c_program.specs.Evaluation.{Here, eval, eval_all, place_at, object_at_type}
-use Rattle.c_program.specs.Requests.{Load, Store, Sets, Copies, Clears, Zeroes, Request, Plain, Creates, Joins, Sets_key, Gets_key, Turn, Goes, Enters, Leaves, Exits, Ask, Asked, Not_so, No_meaning, Asks, with_for, meant_for, if_so, no_value, one_value, further}
-use Rattle.c_program.specs.Typing.{Kind, Wrong, A_literal, A_number, A_pointer, An_address, is_number, is_pointer, is_right, kind_of, kind_of_type, kind_held, takes, gets, has_type, local_is, local_gets, into_gets, result_of, takes_a_pointer, answers_int}
+use Rattle.c_program.specs.Types.{is_scalar, same_type, declared_type}
+use Rattle.c_program.specs.Values.{Cell, Value, type_of_cell}
+use Rattle.c_program.specs.Evaluation.{Here, eval, place_at, object_at_type}
+use Rattle.c_program.specs.Requests.{Store, Sets, Copies, Request, Creates, Joins, Sets_key, Gets_key, Turn, Goes, Enters, Leaves, Exits, Ask, Asked, Not_so, No_meaning, Asks, with_for, meant_for, if_so, no_value, one_value, further}
+use Rattle.c_program.specs.Typing.{Kind, Wrong, A_literal, A_number, A_pointer, An_address, is_number, is_pointer, is_right, kind_of, kind_of_type, has_type, takes_a_pointer, answers_int}
 use Rattle.c_program.specs.Syntax.{parameters_at}
-use Rattle.c_program.proofs.Cells.{and_true}
-use Rattle.type_safety.specs.Fitting.{IsPointer, IsNumber, Fits, OptFits, MemoryFits}
+use Rattle.type_safety.specs.Fitting.{IsPointer, IsNumber, Fits, MemoryFits}
 use Rattle.type_safety.specs.Causes.{is_of_type, Unusable, Fails}
-use Rattle.type_safety.specs.ActionCauses.{UnusableAt, PlaceFails, AnyFails}
-use Rattle.type_safety.proofs.Comes.{Comes, weaker, then_}
-use Rattle.type_safety.proofs.OfKinds.{number_is, pointer_is, scalar_right, takes_fits, gets_fits}
-use Rattle.type_safety.proofs.Shapes.{to_own, from_own, scalar_own}
+use Rattle.type_safety.specs.ActionCauses.{UnusableAt, PlaceFails}
+use Rattle.type_safety.proofs.Comes.{Comes, weaker}
+use Rattle.type_safety.proofs.OfKinds.{number_is, pointer_is}
 use Rattle.type_safety.proofs.Evaluating.{UsedAt, used, evaluated}
 
 -- ---- what is asked for

@@ -1,15 +1,14 @@
 -- Values of kinds.
-use Rattle.std.proofs.Common.{◌≡◌, refl, sym, subst, ap, ◌∙◌, Bool, true, false, cond, ◌&&◌, ℕ, ℤ, List, [], ◌∷◌, Option, Some, None, arith}
+use Rattle.std.proofs.Common.{◌≡◌, refl, Bool, true, false, cond, ◌&&◌, ℕ, ℤ, List, [], ◌∷◌, arith}
 use Rattle.std.proofs.lemmas.Grind.{common_steps}
 use Rattle.std.specs.Prelude.{pos, negsuc, int_le}
-use Rattle.c_program.specs.declared.types.CType.{CType}
 use Rattle.c_program.specs.declared.types.Base.{Base}
 use Rattle.c_program.specs.declared.types.Base.TheVariants as base
 use Rattle.c_program.specs.declared.types.Integer.{Integer as IntegerType}
 use Rattle.c_program.specs.declared.program.Program.{Program}
-use Rattle.c_program.specs.Types.{is_zero, is_scalar, is_scalar_in}
-use Rattle.c_program.specs.Values.{Cell, Value, Number, Address}
-use Rattle.c_program.specs.Typing.{Kind, Wrong, A_literal, A_number, A_pointer, An_address, is_number, is_pointer, is_right, is_number_at, kind_if, kind_in, kind_of_type, takes_in, takes, gets_in, gets, wider, joined_numbers, joined}
+use Rattle.c_program.specs.Types.{is_zero, is_scalar_in}
+use Rattle.c_program.specs.Values.{Value, Number, Address}
+use Rattle.c_program.specs.Typing.{Kind, Wrong, A_literal, A_number, A_pointer, An_address, is_number, is_pointer, is_right, is_number_at, kind_if, kind_in, takes_in, gets_in, wider, joined_numbers, joined}
 use Rattle.c_program.proofs.Cells.{and_true}
 use Rattle.type_safety.specs.Fitting.{IsPointer, IsNumber, Fits}
 

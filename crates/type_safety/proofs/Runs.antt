@@ -1,34 +1,31 @@
 -- In each good run of a well-formed program values fit what holds them, and each undefined step is one of the closed list.
-use Rattle.std.proofs.Common.{◌≡◌, ◌⊎◌, inl, inr, refl, sym, subst, ap, ◌∙◌, Bool, true, false, cond, ◌&&◌, ◌||◌, ◌==◌, ℕ, List, [], ◌∷◌, Option, Some, None}
+use Rattle.std.proofs.Common.{◌≡◌, inl, inr, refl, sym, subst, ap, ◌∙◌, Bool, true, false, ◌||◌, ◌==◌, ℕ, List, [], ◌∷◌, Option, Some, None}
 use Rattle.std.specs.Prelude.{option_map, unwrap_or, slice_get}
-use Rattle.std.specs.List.{list_any, list_all, Contains}
-use Rattle.misra_base.specs.declared.guideline.Guideline.{Guideline}
+use Rattle.std.specs.List.{list_any, list_all}
 use Rattle.c_program.specs.declared.types.CType.{CType}
 use Rattle.c_program.specs.declared.program.Initial.{Initial}
 use Rattle.c_program.specs.declared.program.Object.{Object}
 use Rattle.c_program.specs.declared.program.Program.{Program}
-use Rattle.c_program.specs.Syntax.{act_at}
 use Rattle.c_program.specs.Types.{is_scalar, same_numbers, declared_type, type_at}
 use Rattle.c_program.specs.Values.{Root, Static, Of_thread, Of_frame, Cell, Value, object_of}
-use Rattle.c_program.specs.Evaluation.{Here, eval}
+use Rattle.c_program.specs.Evaluation.{eval}
 use Rattle.c_program.specs.Control.{Control, Move, move_at}
-use Rattle.c_program.specs.State.{State, Thread, Stand, Not_made, Running, Ended, Frame, here, opening, at_start, initial_in, initial_of, initial_at, thread_before, no_thread}
-use Rattle.c_program.specs.Requests.{Request, Ask, Asked, Not_so, No_meaning, Asks}
+use Rattle.c_program.specs.State.{State, Thread, Stand, Not_made, Running, Ended, Frame, opening, at_start, initial_in, initial_of, initial_at, thread_before, no_thread}
+use Rattle.c_program.specs.Requests.{Request, Asked, Not_so, No_meaning, Asks}
 use Rattle.c_program.specs.Faults.{is_undefined, is_broken, has_no_thread, ending_guidelines, may_move, may_answer}
 use Rattle.c_program.specs.Effects.{Effect, lacks_result, after}
 use Rattle.c_program.specs.Step.{Choice, Outcome, No_step, Undefined, Does, outcome, outcome_stand, outcome_moved, outcome_asked, asked_by, advanced}
 use Rattle.c_program.specs.Runs.{IsGoodRun, HasMeaning, state_after, outcome_of}
 use Rattle.c_program.specs.Breaks.{request_in, request_by, request_stand, request_moved}
-use Rattle.c_program.specs.Typing.{kind_of, kind_of_type, takes, initial_is_typed, object_is_typed, answers_int, is_typed}
+use Rattle.c_program.specs.Typing.{kind_of, kind_of_type, takes, initial_is_typed, object_is_typed, is_typed}
 use Rattle.c_program.specs.WellFormed.{IsWellFormed}
 use Rattle.c_program.proofs.Cells.{and_true, numbers_same}
 use Rattle.c_program.proofs.Logic.{if_cases}
 use Rattle.c_program.proofs.Inversion.{by_an_ask}
 use Rattle.c_program.proofs.Members.{In, to_contains}
 use Rattle.c_program.proofs.Sound.{if_either}
-use Rattle.type_safety.specs.Fitting.{Fits, OptFits, MemoryFits}
+use Rattle.type_safety.specs.Fitting.{Fits, OptFits}
 use Rattle.type_safety.specs.Causes.{Fails}
-use Rattle.type_safety.specs.ActionCauses.{ActFails}
 use Rattle.type_safety.specs.Laws.{IsListed, in_a_part, by_a_break, without_a_thread, without_a_result, EachUndefinedStepIsListed, MemoryIsTyped}
 use Rattle.type_safety.proofs.Comes.{Comes}
 use Rattle.type_safety.proofs.OfKinds.{null_fits, takes_fits}

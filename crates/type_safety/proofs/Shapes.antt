@@ -1,14 +1,14 @@
 -- The types of an address's object and of its parts.
-use Rattle.std.proofs.Common.{◌≡◌, refl, sym, subst, ap, ◌∙◌, Bool, true, false, cond, ◌&&◌, nat_lt, ◌==◌, ℕ, ℤ, List, [], ◌∷◌, Option, Some, None, eqb-true}
-use Rattle.std.specs.Prelude.{pos, negsuc, ◌+ℤ◌, option_map, option_and_then, unwrap_or}
+use Rattle.std.proofs.Common.{◌≡◌, refl, sym, subst, ap, ◌∙◌, Bool, true, false, cond, nat_lt, ℕ, ℤ, List, [], ◌∷◌, Option, Some, None, eqb-true}
+use Rattle.std.specs.Prelude.{pos, negsuc, option_map, option_and_then, unwrap_or}
 use Rattle.c_program.specs.declared.types.CType.{CType}
 use Rattle.c_program.specs.declared.types.Base.{Base}
 use Rattle.c_program.specs.declared.types.Base.TheVariants as base
 use Rattle.c_program.specs.declared.program.Program.{Program}
-use Rattle.c_program.specs.Types.{same_base, same_bools, same_pointers, same_numbers, same_type, plain_type, const_too, made_const, is_scalar_base, is_scalar_in, is_scalar, member_type, part_of_base, part_in, type_at}
-use Rattle.c_program.specs.Values.{Root, Cell, Value, Address, part, type_of_cell}
-use Rattle.c_program.specs.Evaluation.{sizes_of, within_bounds, at_part}
-use Rattle.c_program.specs.Typing.{Kind, Wrong, An_address, address_of, element_in, is_right, number_kind, kind_in, kind_of_type}
+use Rattle.c_program.specs.Types.{same_base, same_pointers, same_numbers, same_type, plain_type, const_too, made_const, is_scalar_base, is_scalar_in, is_scalar, member_type, part_of_base, part_in}
+use Rattle.c_program.specs.Values.{Root, Cell, Value, part, type_of_cell}
+use Rattle.c_program.specs.Evaluation.{sizes_of, within_bounds}
+use Rattle.c_program.specs.Typing.{number_kind, kind_in, kind_of_type}
 use Rattle.type_safety.specs.Fitting.{IsNumber, Fits}
 use Rattle.c_program.proofs.Cells.{and_true, numbers_same}
 

@@ -1,5 +1,5 @@
 -- A state whose values fit, and what a step that asks for what fits leaves.
-use Rattle.std.proofs.Common.{◌≡◌, ◌⊎◌, inl, inr, refl, sym, subst, ap, ◌∙◌, Bool, true, false, cond, ◌&&◌, ◌==◌, ℕ, zero, suc, ◌-◌, ℤ, List, [], ◌∷◌, ◌++◌, Option, Some, None, eqb-true, arith, nat_lt, take-append-drop}
+use Rattle.std.proofs.Common.{◌≡◌, refl, sym, subst, ap, ◌∙◌, Bool, true, false, cond, ◌==◌, ℕ, ◌-◌, ℤ, List, [], ◌∷◌, ◌++◌, Option, Some, None, eqb-true, arith, nat_lt, take-append-drop}
 use Rattle.std.proofs.lemmas.Grind.{common_steps}
 use Rattle.std.specs.Prelude.{length, take, drop, option_map, option_and_then, unwrap_or}
 use Rattle.c_program.specs.declared.types.CType.{CType}
@@ -7,21 +7,18 @@ use Rattle.c_program.specs.declared.types.Base.{Base}
 use Rattle.c_program.specs.declared.types.Base.TheVariants as base
 use Rattle.c_program.specs.declared.action.Local.{Local}
 use Rattle.c_program.specs.declared.program.Program.{Program}
-use Rattle.c_program.specs.Syntax.{c_int, parameters_at}
-use Rattle.c_program.specs.Types.{is_zero, is_scalar, same_bool, same_bools, same_base, same_pointers, same_numbers, same_type, const_too, made_const, member_type, part_of_base, part_in, type_at, declared_type}
-use Rattle.c_program.specs.Values.{Root, Static, Of_thread, Of_frame, Cell, Value, Number, Address, null, object_of, same_root, same_cell, is_within, counterpart, type_of_cell}
-use Rattle.c_program.specs.State.{State, Stand, Not_made, Running, Ended, Frame, Life, Unmade, Live, Dead, top}
-use Rattle.c_program.specs.Requests.{Store, Sets, Copies, Clears, Zeroes, Request, Plain, Creates, Joins, Sets_key, Gets_key, Turn, Goes, Enters, Leaves, Exits, Ask}
-use Rattle.c_program.specs.Faults.{result_of, result_of_stand}
-use Rattle.c_program.specs.Effects.{at_base, as_type, put, put_result, put_back, bound, bound_if, joined_result, result_in, pointer_in, stores_of, stored, memory_after, effect_of}
-use Rattle.c_program.specs.Typing.{A_number, A_pointer, kind_in, number_kind, kind_of_type, has_type, takes_a_pointer, takes}
+use Rattle.c_program.specs.Types.{is_scalar, same_bool, same_bools, same_base, same_pointers, same_numbers, same_type, const_too, member_type, part_of_base, part_in, type_at, declared_type}
+use Rattle.c_program.specs.Values.{Root, Of_frame, Cell, Value, Number, Address, null, object_of, same_root, same_cell, is_within, counterpart, type_of_cell}
+use Rattle.c_program.specs.Requests.{Store, Sets, Copies, Clears, Zeroes}
+use Rattle.c_program.specs.Effects.{at_base, as_type, put, put_result, bound, bound_if, stored, memory_after}
+use Rattle.c_program.specs.Typing.{A_pointer, kind_in, kind_of_type, takes_a_pointer, takes}
 use Rattle.c_program.proofs.Cells.{and_true, numbers_same, cell_same, root_same}
 use Rattle.c_program.proofs.Sound.{if_either}
-use Rattle.type_safety.specs.Fitting.{IsPointer, IsNumber, Fits, OptFits, MemoryFits}
+use Rattle.type_safety.specs.Fitting.{IsPointer, Fits, OptFits, MemoryFits}
 use Rattle.type_safety.proofs.OfKinds.{null_fits, takes_fits}
 use Rattle.type_safety.proofs.Shapes.{to_own, from_own, scalar_own}
 use Rattle.type_safety.proofs.Acting.{both_true, type_trans}
-use Rattle.type_safety.proofs.Judging.{CellGets, Alike, StoreFits, EachStoreFits, LocalGets, IntoGets, RequestFits, ArgumentsFit, TurnFits, AskFits}
+use Rattle.type_safety.proofs.Judging.{CellGets, Alike, StoreFits, EachStoreFits, LocalGets, IntoGets, ArgumentsFit}
 
 -- ---- parts of two objects of one type
 
@@ -199,8 +196,11 @@ module _ (program : Program) where
 
       go : (x : Bool) → nat_lt k m ≡ x → cond x (Some (record a { sizes = ms })) None ≡ Some t
           → (u : CType) × (cond (nat_lt k n) (Some (record b { sizes = ns })) None ≡ Some u) × (same_type t u ≡ true)
-      go true l o = (record b { sizes = ns }, ap (λ (x : Bool). cond x (Some (record b { sizes = ns })) None) (subst (λ i. nat_lt k i ≡ true) (eqb-true m n s) l),
-        subst (λ (x : CType). same_type x (record b { sizes = ns }) ≡ true) (same_some _ _ o) r)
+      go true l o = (
+        record b { sizes = ns },
+        ap (λ (x : Bool). cond x (Some (record b { sizes = ns })) None) (subst (λ i. nat_lt k i ≡ true) (eqb-true m n s) l),
+        subst (λ (x : CType). same_type x (record b { sizes = ns }) ≡ true) (same_some _ _ o) r,
+      )
       go false l o = absurd (none_some t o)
   part_alike_in a b [] [] [] [] k t e f g h o = base_alike a.base b.base a.is_const b.is_const k t e o
   part_alike_in a b (p ∷ ps) q [] n k t e f g h o = absurd (cc)

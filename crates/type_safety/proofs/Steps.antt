@@ -1,6 +1,5 @@
 -- A step of a typed program leaves a state whose values fit.
-use Rattle.std.proofs.Common.{◌≡◌, ◌⊎◌, inl, inr, refl, sym, subst, ap, ◌∙◌, Bool, true, false, cond, ◌&&◌, ◌==◌, ℕ, ℤ, List, [], ◌∷◌, ◌++◌, Option, Some, None, eqb-true}
-use Rattle.std.specs.Prelude.{option_map, unwrap_or}
+use Rattle.std.proofs.Common.{◌≡◌, refl, sym, subst, ap, ◌∙◌, Bool, true, false, ◌==◌, ℕ, ℤ, List, [], ◌∷◌, ◌++◌, Option, Some, None, eqb-true}
 use Rattle.c_program.specs.declared.types.CType.{CType}
 use Rattle.c_program.specs.declared.action.Local.{Local}
 use Rattle.c_program.specs.declared.action.Act.{Act}
@@ -10,12 +9,12 @@ use Rattle.c_program.specs.declared.action.LibraryCall.TheVariants as lib
 use Rattle.c_program.specs.declared.program.Program.{Program}
 use Rattle.c_program.specs.Syntax.{c_int, act_at, body_at, parameters_at}
 use Rattle.c_program.specs.Types.{is_zero, same_type}
-use Rattle.c_program.specs.Values.{Cell, Value, Number, Address, null, same_cell}
+use Rattle.c_program.specs.Values.{Cell, Value, null, same_cell}
 use Rattle.c_program.specs.Control.{Control, Run, Behind, Move, move_at, goes_on, returned, entered}
-use Rattle.c_program.specs.State.{State, Thread, Stand, Not_made, Running, Ended, Frame, Life, Unmade, Live, Dead, top, frames_of, control_of, here, spot_at, string_at, thread_before}
-use Rattle.c_program.specs.Requests.{Request, Plain, Creates, Joins, Detaches, Inits, Tries, Tries_timed, Opens, Makes_key, Sets_key, Gets_key, Turn, Goes, Enters, Leaves, Exits, Ask, Asked, No_meaning, Asks, asked, retakes}
+use Rattle.c_program.specs.State.{State, Thread, Stand, Not_made, Running, Ended, Frame, Life, Unmade, Live, Dead, top, frames_of, control_of, here}
+use Rattle.c_program.specs.Requests.{Request, Plain, Creates, Joins, Detaches, Inits, Tries, Tries_timed, Opens, Makes_key, Sets_key, Gets_key, Turn, Goes, Enters, Leaves, Exits, Ask, No_meaning, Asks}
 use Rattle.c_program.specs.Faults.{result_of, result_of_stand}
-use Rattle.c_program.specs.Effects.{Sync, Nothing, Makes, Writes_key, Starts_key, Kills_key, Suspends, Finishes, finishes, Effect, effect_of, sync_of, sync_after, if_done, marks, made_by, own_stand, frames_after, thread_after, moved_thread, put_result, put_back, joined_result, result_in, pointer_in, stores_of, key_after, pointed, after}
+use Rattle.c_program.specs.Effects.{Sync, Nothing, Makes, Writes_key, Starts_key, Kills_key, Suspends, Finishes, finishes, Effect, effect_of, sync_of, sync_after, if_done, marks, made_by, own_stand, frames_after, thread_after, put_result, put_back, joined_result, result_in, pointer_in, stores_of, key_after, pointed, after}
 use Rattle.c_program.specs.Step.{Choice, asked_by}
 use Rattle.c_program.specs.Typing.{kind_of_type, kind_held, into_gets, act_is_typed, answers_int, is_typed}
 use Rattle.c_program.specs.Typing.{result_of as result_type}
@@ -24,14 +23,14 @@ use Rattle.c_program.proofs.Cells.{and_true}
 use Rattle.c_program.proofs.Asks.{EachAsk, from_each}
 use Rattle.c_program.proofs.Onward.{Kind, Goes_on, Calls, Returns, Exits_all, kind_of, left_by, left_is, ByKind, action_goes, retakes_goes}
 use Rattle.c_program.proofs.Sound.{if_either}
-use Rattle.type_safety.specs.Fitting.{IsPointer, IsNumber, Fits, OptFits, MemoryFits}
+use Rattle.type_safety.specs.Fitting.{IsPointer, IsNumber, MemoryFits}
 use Rattle.type_safety.specs.ActionCauses.{ActFails}
 use Rattle.type_safety.proofs.Shapes.{from_own}
 use Rattle.type_safety.proofs.Acting.{into_fits, into_none}
-use Rattle.type_safety.proofs.Judging.{StoreFits, EachStoreFits, IntoGets, RequestFits, TurnFits, AskFits, Judged}
+use Rattle.type_safety.proofs.Judging.{EachStoreFits, IntoGets, RequestFits, TurnFits, AskFits, Judged}
 use Rattle.type_safety.proofs.Typed.{action_good, again_good}
 use Rattle.type_safety.proofs.States.{appended, put_fits, put_result_fits, bound_fits, bound_if_fits, memory_fits}
-use Rattle.type_safety.proofs.Controls.{ControlFits, MoveFits, StatementFits, move_fits, no_frames, last_is_int, returned_fits, body_fits}
+use Rattle.type_safety.proofs.Controls.{ControlFits, MoveFits, move_fits, no_frames, last_is_int, returned_fits, body_fits}
 
 -- ---- states whose values fit
 

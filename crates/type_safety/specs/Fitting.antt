@@ -1,5 +1,5 @@
 -- Which values fit an expression's kind, and a state whose values fit the types of what holds them.
-use Rattle.std.specs.Prelude.{◌≡◌, ℕ, true, ℤ, int_le, List, Option, Some, None}
+use Rattle.std.specs.Prelude.{◌≡◌, ℕ, true, ℤ, int_le, Option, Some, None}
 use Rattle.c_program.specs.declared.types.CType.{CType}
 use Rattle.c_program.specs.declared.program.Program.{Program}
 use Rattle.c_program.specs.Types.{is_zero, is_scalar}
