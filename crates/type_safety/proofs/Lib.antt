@@ -1,0 +1,14 @@
+pub mod OfKinds
+pub mod Shapes
+pub mod Comes
+pub mod Arithmetic
+pub mod Evaluating
+pub mod Judging
+pub mod Acting
+pub mod Acts
+pub mod Calling
+pub mod Typed
+pub mod States
+pub mod Controls
+pub mod Steps
+pub mod Runs

@@ -1,0 +1,4 @@
+pub mod Fitting
+pub mod Causes
+pub mod ActionCauses
+pub mod Laws
