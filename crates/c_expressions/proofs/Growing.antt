@@ -1,11 +1,19 @@
 -- Lists that grow at their end, and the pieces that they are read from.
-use Rattle.std.proofs.Common.{◌≡◌, ◌∙◌, ◌<◌, ℕ, List, [], ◌∷◌, ◌++◌, map, length, sym, ap, subst, append_assoc, append-nil, arith}
-use Rattle.std.proofs.lemmas.List.{map-append}
+use Rattle.std.proofs.Common.{◌≡◌, ◌∙◌, ◌<◌, ℕ, List, [], ◌∷◌, ◌++◌, map, length, refl, sym, ap, subst, append_assoc, append-nil, arith}
+use Rattle.std.proofs.lemmas.List.{length-map, map-append}
+use Rattle.c_lexer.specs.declared.token_class.TokenClass.{TokenClass}
 use Rattle.c_lexer.specs.declared.token_class.TokenClass.TheVariants as T
+use Rattle.misra_base.specs.declared.place.Place.{Place}
+use Rattle.c_tree.specs.declared.expression.BinaryOperator.{BinaryOperator}
+use Rattle.c_tree.specs.declared.expression.Declarator.{Declarator}
+use Rattle.c_tree.specs.declared.expression.Enumerator.{Enumerator}
+use Rattle.c_tree.specs.declared.expression.Expression.{Expression}
+use Rattle.c_tree.specs.declared.expression.Operation.{Operation}
+use Rattle.c_tree.specs.declared.expression.Pointer.{Pointer}
 use Rattle.c_tree.specs.declared.expression.Qualifier.{Qualifier}
 use Rattle.c_tree.specs.Expressions
-use Rattle.c_tree.specs.Views.{OneEnumerator, OneMember, OneOperation, bounds_of, declarators_of, enumerators_of, expressions_of, members_of, operations_of, postfixes_of, specifiers_of}
-use Rattle.c_reader.specs.Grouping.{IsGrouped, AreGrouped, ArePostfixes, IsPostfix, AreArguments, AreSpecifiers, IsSpecifier, AreMembers, AreDeclarators, IsDeclarator, AreSized, IsSized, AreBounds, IsBound, HaveSizes, HasSize, AreEnumerators, row_of, binding}
+use Rattle.c_tree.specs.Views.{OneEnumerator, OneMember, OneOperation, declarator_view, enumerator_view, expression_view, operation_view, pointers_view, bounds_of, declarators_of, enumerators_of, expressions_of, members_of, operations_of, postfixes_of, specifiers_of}
+use Rattle.c_reader.specs.Grouping.{IsGrouped, AreGrouped, ArePostfixes, IsPostfix, AreArguments, AreSpecifiers, IsSpecifier, AreMembers, AreDeclarators, IsDeclarator, AreSized, IsSized, AreBounds, IsBound, HaveSizes, HasSize, AreEnumerators, HasSpecifier, HasDeclarator, HasEnumerator, row_of, binding}
 use Rattle.c_reader.specs.Pieces.{Piece, any, at, word}
 use Rattle.c_reader.specs.Signs.{binary_sign, qualifier_sign}
 use Rattle.c_reader.specs.SpelledExpressions
@@ -57,6 +65,13 @@ pointers_push (x ∷ ps) p =
     append_assoc (at T.Asterisk x.place ∷ qualifiers x.qualifiers) (pointers ps) (at T.Asterisk p.place ∷ qualifiers p.qualifiers)
     ∙ ap (λ qs. at T.Asterisk x.place ∷ qualifiers x.qualifiers ++ qs) (pointers_push ps p)
 
+abbrev pointer_view : Pointer → Expressions.PointerData
+pointer_view p = record { place = p.place; qualifiers = p.qualifiers.items }
+
+pub pointers_pushed : (old new : List Pointer) (p : Pointer) → new ≡ old ++ p ∷ []
+    → pointers (pointers_view old) ++ at T.Asterisk p.place ∷ qualifiers p.qualifiers.items ≡ pointers (pointers_view new)
+pointers_pushed old new p is = pointers_push (map pointer_view old) (pointer_view p) ∙ grown pointer_view pointers old new p is
+
 more_declarators_push : (ds : List Expressions.DeclaratorData) (d : Expressions.DeclaratorData)
     → more_declarators (declarators_of ds) ++ any T.Comma ∷ declarator d ≡ more_declarators (declarators_of (ds ++ d ∷ []))
 more_declarators_push [] d = sym (append-nil (any T.Comma ∷ declarator d))
@@ -87,12 +102,95 @@ enumerators_push (x ∷ es) e some =
     append_assoc (one_enumerator x) (more_enumerators (enumerators_of es)) (any T.Comma ∷ one_enumerator e)
     ∙ ap (λ qs. one_enumerator x ++ qs) (more_enumerators_push es e)
 
+-- lists of values, with what separates their elements
+pub some_seen : {X D : Type 0} (view : X → D) (xs : List X) → 0 < length xs → 0 < length (map view xs)
+some_seen view [] some = absurd (omega arith)
+some_seen view (x ∷ xs) some = omega arith
+
+pub arguments_pushed : (old new : List Expression) (e : Expression) → 0 < length old → new ≡ old ++ e ∷ []
+    → arguments (expressions_of (map expression_view old)) ++ any T.Comma ∷ expression (expression_view e) ≡ arguments (expressions_of (map expression_view new))
+arguments_pushed old new e some is =
+    arguments_push (map expression_view old) (expression_view e) (some_seen expression_view old some)
+    ∙ grown expression_view (λ (es : List Expressions.ExpressionData). arguments (expressions_of es)) old new e is
+
+pub declarators_pushed : (old new : List Declarator) (d : Declarator) → 0 < length old → new ≡ old ++ d ∷ []
+    → declarators (declarators_of (map declarator_view old)) ++ any T.Comma ∷ declarator (declarator_view d) ≡ declarators (declarators_of (map declarator_view new))
+declarators_pushed old new d some is =
+    declarators_push (map declarator_view old) (declarator_view d) (some_seen declarator_view old some)
+    ∙ grown declarator_view (λ (ds : List Expressions.DeclaratorData). declarators (declarators_of ds)) old new d is
+
+pub enumerators_pushed : (old new : List Enumerator) (e : Enumerator) (behind : List Piece) → 0 < length old → new ≡ old ++ e ∷ []
+    → (enumerators (enumerators_of (map enumerator_view old)) ++ any T.Comma ∷ []) ++ (enumerators (enumerators_of (enumerator_view e ∷ [])) ++ behind)
+    ≡ enumerators (enumerators_of (map enumerator_view new)) ++ behind
+enumerators_pushed old new e behind some is =
+    let before = enumerators (enumerators_of (map enumerator_view old)) in
+    let one = enumerators (enumerators_of (enumerator_view e ∷ [])) in
+    append_assoc before (any T.Comma ∷ []) (one ++ behind) ∙ sym (append_assoc before (any T.Comma ∷ one) behind)
+    ∙ ap (λ (ps : List Piece). ps ++ behind)
+    (ap (λ (ps : List Piece). before ++ any T.Comma ∷ ps) (append-nil (one_enumerator (enumerator_view e)))
+    ∙ enumerators_push (map enumerator_view old) (enumerator_view e) (some_seen enumerator_view old some)
+    ∙ grown enumerator_view (λ (es : List OneEnumerator). enumerators (enumerators_of es)) old new e is)
+
+pub members_push : (ms : List OneMember) (m : OneMember) → members (members_of ms) ++ members (members_of (m ∷ [])) ≡ members (members_of (ms ++ m ∷ []))
+members_push [] m = refl
+members_push (x ∷ ms) m =
+    append_assoc (specifiers x.specifiers) (declarators x.declarators ++ any T.Semicolon ∷ members (members_of ms)) (members (members_of (m ∷ [])))
+    ∙ ap (λ qs. specifiers x.specifiers ++ qs) (append_assoc (declarators x.declarators) (any T.Semicolon ∷ members (members_of ms)) (members (members_of (m ∷ []))))
+    ∙ ap (λ qs. specifiers x.specifiers ++ declarators x.declarators ++ any T.Semicolon ∷ qs) (members_push ms m)
+
+-- operators with their operands behind what they begin with
+pub operations_pushed : (front : List Piece) (items news : List Operation) (o : Operation) (place : Place) (operator : BinaryOperator) (t : TokenClass) (e : Expression)
+    → news ≡ items ++ o ∷ [] → operation_view o ≡ record { place = place; operator = operator; operand = expression_view e } → t ≡ binary_sign operator
+    → (front ++ operations (operations_of (map operation_view items))) ++ at t place ∷ expression (expression_view e)
+    ≡ front ++ operations (operations_of (map operation_view news))
+operations_pushed front items news o place operator t e is seen sign =
+    let one : OneOperation = record { place = place; operator = operator; operand = expression_view e } in
+    append_assoc front (operations (operations_of (map operation_view items))) (at t place ∷ expression (expression_view e))
+    ∙ ap (λ (ps : List Piece). front ++ ps)
+    (ap (λ (t : TokenClass). operations (operations_of (map operation_view items)) ++ at t place ∷ expression (expression_view e)) sign
+    ∙ operations_push (map operation_view items) one
+    ∙ ap (λ (o : OneOperation). operations (operations_of (map operation_view items ++ o ∷ []))) (sym seen)
+    ∙ grown operation_view (λ (os : List OneOperation). operations (operations_of os)) items news o is)
+
+-- ---- lists of one at least
+
+pub has_specifier : (ss : List Expressions.SpecifierData) → 0 < length ss → HasSpecifier (specifiers_of ss)
+has_specifier [] some = absurd (omega arith)
+has_specifier (s ∷ ss) some = tt
+
+pub has_declarator : (ds : List Expressions.DeclaratorData) → 0 < length ds → HasDeclarator (declarators_of ds)
+has_declarator [] some = absurd (omega arith)
+has_declarator (d ∷ ds) some = tt
+
+pub has_enumerator : (es : List OneEnumerator) → 0 < length es → HasEnumerator (enumerators_of es)
+has_enumerator [] some = absurd (omega arith)
+has_enumerator (e ∷ es) some = tt
+
 -- ---- grouping
 
 pub grouped_push : (os : List OneOperation) (o : OneOperation) (row : ℕ) → AreGrouped (operations_of os) row → row_of o.operator ≡ row → row < binding o.operand
     → IsGrouped o.operand → AreGrouped (operations_of (os ++ o ∷ [])) row
 grouped_push [] o row h same above inner = (same, above, inner, tt)
 grouped_push (p ∷ os) o row h same above inner = (h.0, h.1, h.2, grouped_push os o row h.3 same above inner)
+
+pub operations_grouped : (row : ℕ) (items news : List Operation) (o : Operation) (place : Place) (operator : BinaryOperator) (e : Expression)
+    → news ≡ items ++ o ∷ [] → operation_view o ≡ record { place = place; operator = operator; operand = expression_view e } → row_of operator ≡ row
+    → AreGrouped (operations_of (map operation_view items)) row → row < binding (expression_view e) → IsGrouped (expression_view e)
+    → AreGrouped (operations_of (map operation_view news)) row
+operations_grouped row items news o place operator e is seen same before above inner =
+    let one : OneOperation = record { place = place; operator = operator; operand = expression_view e } in
+    subst (λ (os : List OneOperation). AreGrouped (operations_of os) row)
+    (ap (λ (o : OneOperation). map operation_view items ++ o ∷ []) (sym seen) ∙ grown operation_view (λ (os : List OneOperation). os) items news o is)
+    (grouped_push (map operation_view items) one row before same above inner)
+
+pub members_grouped : (ms : List OneMember) (m : OneMember) → AreMembers (members_of ms) → AreMembers (members_of (m ∷ [])) → AreMembers (members_of (ms ++ m ∷ []))
+members_grouped [] m h one = one
+members_grouped (x ∷ ms) m h one = (h.0, h.1, h.2, h.3, h.4, members_grouped ms m h.5 one)
+
+pub enumerators_grouped : (es : List OneEnumerator) (e : OneEnumerator) → AreEnumerators (enumerators_of es) → AreEnumerators (enumerators_of (e ∷ []))
+    → AreEnumerators (enumerators_of (es ++ e ∷ []))
+enumerators_grouped [] e h one = one
+enumerators_grouped (x ∷ es) e h one = (h.0, enumerators_grouped es e h.1 one)
 
 pub postfixes_grouped : (ps : List Expressions.PostfixData) (p : Expressions.PostfixData) → ArePostfixes (postfixes_of ps) → IsPostfix p → ArePostfixes (postfixes_of (ps ++ p ∷ []))
 postfixes_grouped [] p h one = (one, tt)

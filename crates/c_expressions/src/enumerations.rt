@@ -65,13 +65,12 @@ fn enumerator(reader: &mut Reader<'_>, value: Nonterminal) -> Result<Enumerator,
     ensures stop { IfErr result (Stops reader.old.source) }
 {
     let name = reader.word(TokenClass::Identifier)?;
-    let value = if reader.option(value)? {
-        reader.pass(TokenClass::Assign)?;
-        Some(conditional(reader)?)
-    } else {
-        None
-    };
-    Ok(enumerator_of(reader.alloc(), name, value)?)
+    if !reader.option(value)? {
+        return Ok(enumerator_of(reader.alloc(), name, None)?);
+    }
+    reader.pass(TokenClass::Assign)?;
+    let value = conditional(reader)?;
+    Ok(enumerator_of(reader.alloc(), name, Some(value))?)
 }
 
 /// `emore = [ "," [ id [ "=" cond ] emore ] ]`, up to the next name.

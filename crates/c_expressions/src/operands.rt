@@ -123,9 +123,9 @@ fn bracketed(reader: &mut Reader<'_>) -> Result<Expression, ParseStop>
     }
     let inner = conditional(reader)?;
     reader.pass(TokenClass::RightParenthesis)?;
-    let operand = parenthesized_of(reader.alloc(), inner)?;
+    let parenthesized = parenthesized_of(reader.alloc(), inner)?;
     let postfixes = postfixes(reader, Nonterminal::UnaryBracketPostfixes)?;
-    Ok(postfix_of(reader.alloc(), operand, postfixes)?)
+    Ok(postfix_of(reader.alloc(), parenthesized, postfixes)?)
 }
 
 /// `( id | num ) { post }` (C11 6.5.1, 6.5.2).
@@ -234,10 +234,12 @@ fn arguments(reader: &mut Reader<'_>) -> Result<Vec<Expression>, ParseStop>
     if !reader.option(Nonterminal::PostfixArguments)? {
         return Ok(arguments);
     }
-    arguments.push(conditional(reader)?)?;
+    let first = conditional(reader)?;
+    arguments.push(first)?;
     while reader.option(Nonterminal::PostfixMore)? {
         reader.pass(TokenClass::Comma)?;
-        arguments.push(conditional(reader)?)?;
+        let next = conditional(reader)?;
+        arguments.push(next)?;
     }
     Ok(arguments)
 }
