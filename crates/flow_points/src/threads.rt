@@ -95,15 +95,15 @@ impl NumberedPoints {
 }
 
 impl Threads {
-    pub fn count(&self) -> u32
+    pub fn count(&self) -> u16
         requires { length self.now.creations.items ≤ 64 }
         ensures { result ≡ suc (length self.now.creations.items) }
     {
-        self.creations.len() as u32 + 1
+        self.creations.len() as u16 + 1
     }
 
     /// Where a thread begins.
-    pub fn entry(&self, points: &NumberedPoints, thread: u32) -> u32
+    pub fn entry(&self, points: &NumberedPoints, thread: u16) -> u32
         requires creations { self.now.creations.items ≡ creations_of points.now.graph }
         requires thread { thread < count_of_threads points.now.graph }
         ensures { IsAt points.now.graph result (entry_point points.now.graph thread) }
@@ -116,7 +116,7 @@ impl Threads {
     }
 
     /// The thread that a creation point makes.
-    fn made(&self, points: &NumberedPoints, creation: u32) -> u32
+    fn made(&self, points: &NumberedPoints, creation: u32) -> u16
         requires creations { self.now.creations.items ≡ creations_of points.now.graph }
         requires few { length self.now.creations.items ≤ 64 }
         requires point { creation < length (points_of points.now.graph) }
@@ -125,14 +125,14 @@ impl Threads {
     {
         for k in 0..self.creations.len() {
             if self.creations[k] == creation {
-                return k as u32 + 1;
+                return k as u16 + 1;
             }
         }
         unreachable!()
     }
 
     /// The thread of a point.
-    pub fn thread(&self, points: &NumberedPoints, point: u32) -> u32
+    pub fn thread(&self, points: &NumberedPoints, point: u32) -> u16
         requires creations { self.now.creations.items ≡ creations_of points.now.graph }
         requires few { length self.now.creations.items ≤ 64 }
         requires point { point < length (points_of points.now.graph) }

@@ -3,6 +3,7 @@ use Rattle.std.specs.Prelude.{◌≡◌, ℕ, ◌+◌, ◌*◌, ◌<◌, ◌≤�
 use Rattle.std.specs.List.{Contains, sum_by}
 use Rattle.flow_points.specs.declared.graph.Graph.{Graph}
 use Rattle.flow_points.specs.PointLists.{points_of}
+use Rattle.flow_points.specs.Threads.{count_of_threads}
 use Rattle.flow_reach.specs.Paths.{Transitions, Leads, Begins, Arrives}
 use Rattle.flow_reach.specs.declared.kept.Reach.{Reach}
 
@@ -58,3 +59,8 @@ IsStarted graph track search = (thread entry state : ℕ) → Begins graph threa
 pub record Suits (graph : Graph) (states : ℕ) (search : Reach) : Type 0 where
   pub points : search.points ≡ length (points_of graph)
   pub size : search.size ≡ states
+
+-- a track answers at each thread and each move between points, in each of its states
+pub record IsAskable (graph : Graph) (can_start : ℕ → ℕ → Type 0) (can_step : ℕ → ℕ → ℕ → ℕ → Type 0) (states : ℕ) : Type 0 where
+  pub starts : (thread state : ℕ) → thread < count_of_threads graph → state < states → can_start thread state
+  pub steps : (point next state after : ℕ) → Leads graph point next → state < states → after < states → can_step point next state after

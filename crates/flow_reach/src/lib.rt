@@ -18,16 +18,23 @@ pub trait Track {
 
     ghost states: { Self → ℕ };
 
+    /// At which threads and states it may be asked, and at which points.
+    ghost can_start: { Self → ℕ → ℕ → Type 0 };
+
+    ghost can_step: { Self → ℕ → ℕ → ℕ → ℕ → Type 0 };
+
     /// The states are the numbers below this one.
     fn size(&self) -> u32
         ensures { result ≡ states self.now };
 
     /// Whether the thread may start in the state.
-    fn start(&self, thread: u32, state: u32) -> bool
+    fn start(&self, thread: u16, state: u32) -> bool
+        requires { can_start self.now thread state }
         ensures { result ≡ (transitions self.now).start thread state };
 
     /// Whether a move from a point to a next one may lead from the state to the other.
     fn step(&self, point: u32, next: u32, state: u32, after: u32) -> bool
+        requires { can_step self.now point next state after }
         ensures { result ≡ (transitions self.now).step point next state after };
 
     ghost start_within: { (t : Self) (thread state : ℕ) → (transitions t).start thread state ≡ true → state < states t };

@@ -20,11 +20,15 @@ impl Track for Plain {
 
     ghost states = { λ t. 1 };
 
+    ghost can_start = { λ t thread state. Unit {0} };
+
+    ghost can_step = { λ t point next state after. Unit {0} };
+
     fn size(&self) -> u32 {
         1
     }
 
-    fn start(&self, _thread: u32, state: u32) -> bool {
+    fn start(&self, _thread: u16, state: u32) -> bool {
         state == 0
     }
 

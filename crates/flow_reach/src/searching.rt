@@ -3,7 +3,7 @@ ghost use Rattle.std.specs.Prelude.{◌≡◌, ℕ, ◌+◌, ◌*◌, ◌<◌, �
 ghost use Rattle.flow_points.specs.PointLists.{points_of};
 ghost use Rattle.flow_points.specs.Threads.{creations_of, count_of_threads};
 ghost use Rattle.flow_reach.specs.Paths.{Transitions, Leads, Begins, Arrives};
-ghost use Rattle.flow_reach.specs.Searches.{IsMarked, Grows, IsSound, IsDone, Suits, IsStarted, IsClosed, IsFine};
+ghost use Rattle.flow_reach.specs.Searches.{IsMarked, Grows, IsSound, IsDone, Suits, IsStarted, IsClosed, IsFine, IsAskable};
 
 use crate::Track;
 use crate::kept::{Mark, Reach};
@@ -63,10 +63,12 @@ impl Reach {
         next: u32,
         after: u32,
     ) -> Result<(), AllocError>
+        requires askable { IsAskable points.now.graph (T.can_start track.now) (T.can_step track.now) (T.states track.now) }
         requires suits { Suits points.now.graph (T.states track.now) self.old }
         requires sound { IsSound points.now.graph (T.transitions track.now) self.old }
         requires arrives { Arrives points.now.graph (T.transitions track.now) from.point from.state }
         requires leads { Leads points.now.graph from.point next }
+        requires state { from.state < self.old.size }
         requires after { after < self.old.size }
         ensures grows { OnOk result (Grows self.old self.new) }
         ensures sound { OnOk result (IsSound points.now.graph (T.transitions track.now) self.new) }
@@ -86,6 +88,7 @@ impl Reach {
         from: Mark,
         next: u32,
     ) -> Result<(), AllocError>
+        requires askable { IsAskable points.now.graph (T.can_start track.now) (T.can_step track.now) (T.states track.now) }
         requires suits { Suits points.now.graph (T.states track.now) self.old }
         requires sound { IsSound points.now.graph (T.transitions track.now) self.old }
         requires arrives { Arrives points.now.graph (T.transitions track.now) from.point from.state }
@@ -108,6 +111,7 @@ impl Reach {
         track: &T,
         from: Mark,
     ) -> Result<(), AllocError>
+        requires askable { IsAskable points.now.graph (T.can_start track.now) (T.can_step track.now) (T.states track.now) }
         requires suits { Suits points.now.graph (T.states track.now) self.old }
         requires sound { IsSound points.now.graph (T.transitions track.now) self.old }
         requires arrives { Arrives points.now.graph (T.transitions track.now) from.point from.state }
@@ -129,10 +133,11 @@ impl Reach {
         &mut self,
         points: &NumberedPoints,
         track: &T,
-        thread: u32,
+        thread: u16,
         entry: u32,
         state: u32,
     ) -> Result<(), AllocError>
+        requires askable { IsAskable points.now.graph (T.can_start track.now) (T.can_step track.now) (T.states track.now) }
         requires suits { Suits points.now.graph (T.states track.now) self.old }
         requires sound { IsSound points.now.graph (T.transitions track.now) self.old }
         requires begins { Begins points.now.graph thread entry }
@@ -152,9 +157,10 @@ impl Reach {
         &mut self,
         points: &NumberedPoints,
         track: &T,
-        thread: u32,
+        thread: u16,
         entry: u32,
     ) -> Result<(), AllocError>
+        requires askable { IsAskable points.now.graph (T.can_start track.now) (T.can_step track.now) (T.states track.now) }
         requires suits { Suits points.now.graph (T.states track.now) self.old }
         requires sound { IsSound points.now.graph (T.transitions track.now) self.old }
         requires begins { Begins points.now.graph thread entry }
@@ -177,6 +183,7 @@ impl Reach {
     ) -> Result<(), AllocError>
         requires creations { threads.now.creations.items ≡ creations_of points.now.graph }
         requires few { length threads.now.creations.items ≤ 64 }
+        requires askable { IsAskable points.now.graph (T.can_start track.now) (T.can_step track.now) (T.states track.now) }
         requires suits { Suits points.now.graph (T.states track.now) self.old }
         requires sound { IsSound points.now.graph (T.transitions track.now) self.old }
         ensures grows { OnOk result (Grows self.old self.new) }
@@ -192,6 +199,7 @@ impl Reach {
 
     /// Goes on until nothing is queued.
     fn exhaust<T: Track>(&mut self, points: &NumberedPoints, track: &T) -> Result<(), AllocError>
+        requires askable { IsAskable points.now.graph (T.can_start track.now) (T.can_step track.now) (T.states track.now) }
         requires suits { Suits points.now.graph (T.states track.now) self.old }
         requires sound { IsSound points.now.graph (T.transitions track.now) self.old }
         requires closed { IsClosed points.now.graph (T.transitions track.now) self.old }
@@ -218,6 +226,7 @@ pub fn reach<T: Track>(
     requires creations { threads.now.creations.items ≡ creations_of points.now.graph }
     requires few { length threads.now.creations.items ≤ 64 }
     requires states { T.states track.now < 2 ^ 29 }
+    requires askable { IsAskable points.now.graph (T.can_start track.now) (T.can_step track.now) (T.states track.now) }
     ensures suits { IfOk result (λ s. Suits points.now.graph (T.states track.now) s) }
     ensures exact { IfOk result (λ s. (point state : ℕ) → point < length (points_of points.now.graph) → state < T.states track.now
         → IsMarked s point state ↔ Arrives points.now.graph (T.transitions track.now) point state) }
