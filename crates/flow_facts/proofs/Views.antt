@@ -1,5 +1,5 @@
 -- Numbered points as points of the text.
-use Rattle.std.proofs.Common.{◌≡◌, ◌<◌, ℕ, zero, suc, refl, sym, ap, ◌∙◌, List, [], ◌∷◌, length, slice_get, get_or, Some, arith}
+use Rattle.std.proofs.Common.{◌≡◌, ◌<◌, ℕ, zero, suc, refl, sym, ap, List, [], ◌∷◌, length, slice_get, get_or, Some, arith}
 use Rattle.control_flow.specs.declared.flow.Spot.{Spot as SpotOf}
 use Rattle.control_flow.specs.Labels.{spot_in_list, spot_of}
 

@@ -1,6 +1,6 @@
 -- What the analyses owe: each reader tells its definition, at the numbers of the program's points, threads and locations.
 -- All but points-to tell it over the tests of names that they are given.
-use Rattle.std.specs.Prelude.{◌≡◌, ◌<◌, ℕ, List, Option, Some}
+use Rattle.std.specs.Prelude.{◌≡◌, ◌<◌, ℕ, List, Some}
 use Rattle.c_program.specs.declared.program.Program.{Program}
 use Rattle.c_program.specs.Values.{Location}
 use Rattle.c_program.specs.Control.{Spot, Point}

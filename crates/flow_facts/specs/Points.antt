@@ -1,5 +1,5 @@
 -- What the points of a program are, by their numbers.
-use Rattle.std.specs.Prelude.{◌≡◌, ◌<◌, ℕ, zero, suc, Bool, false, List, map, Option, None, slice_get, slice_index_or, option_map, unwrap_or, length}
+use Rattle.std.specs.Prelude.{ℕ, zero, suc, Bool, false, List, map, Option, None, slice_get, slice_index_or, length}
 use Rattle.misra_base.specs.declared.place.Place.{Place}
 use Rattle.c_program.specs.Control.{Spot, Point}
 use Rattle.flow_points.specs.PointLists as graph_points

@@ -1,5 +1,5 @@
 -- What tables of states tell, by the numbers of points and of locations.
-use Rattle.std.specs.Prelude.{ℕ, ◌+◌, ◌*◌, ◌==◌, Bool, false, not, ◌&&◌, List, Option, None, slice_index_or, slice_get, unwrap_or}
+use Rattle.std.specs.Prelude.{ℕ, ◌+◌, ◌*◌, ◌==◌, Bool, false, not, ◌&&◌, Option, None, slice_index_or, slice_get, unwrap_or}
 use Rattle.std.specs.List.{list_any}
 use Rattle.flow_facts.specs.declared.states.StateTable.{StateTable}
 use Rattle.flow_facts.specs.declared.states.Held.{Held}

@@ -1,5 +1,5 @@
 -- The answers of the readers as tests over points and locations of the program.
-use Rattle.std.specs.Prelude.{ℕ, ℤ, int_le, ◌==◌, Bool, true, false, ◌&&◌, List, [], ◌∷◌, Option, Some, None, option_map, option_and_then, unwrap_or, find}
+use Rattle.std.specs.Prelude.{ℕ, ℤ, int_le, ◌==◌, Bool, true, false, ◌&&◌, List, [], ◌∷◌, Option, Some, None, option_and_then, find}
 use Rattle.std.specs.List.{list_any, range_with_len}
 use Rattle.c_program.specs.declared.program.Program.{Program}
 use Rattle.c_program.specs.Values.{Location}
@@ -23,7 +23,7 @@ use Rattle.flow_facts.specs.Points.{count_of, threads_of, point_at, thread_at}
 use Rattle.flow_facts.specs.Targets.{names_at, is_exact_at, regions_at}
 use Rattle.flow_facts.specs.States.{thread_may_be_at, plain_at, life_may_be_at}
 use Rattle.flow_facts.specs.Orders.{ordered_at}
-use Rattle.flow_facts.specs.Locations.{same_location, location_at, at_location}
+use Rattle.flow_facts.specs.Locations.{location_at, at_location}
 
 -- ---- which points are the same
 

@@ -23,9 +23,7 @@ impl StateTable {
         ensures { result ≡ may_be_at self.now point object state }
     {
         let states = self.states;
-        self.rows
-            .iter()
-            .any(|row| row.object == object && row.may(states, point, state))
+        self.rows.iter().any(|row| row.object == object && row.may(states, point, state))
     }
 }
 

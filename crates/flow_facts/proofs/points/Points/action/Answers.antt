@@ -1,4 +1,4 @@
-use Rattle.std.proofs.Common.{◌≡◌, ◌<◌, length, ap, sym, ◌∙◌, subst, arith}
+use Rattle.std.proofs.Common.{◌<◌, length, ap, sym, ◌∙◌, subst}
 use Rattle.control_flow.specs.Labels.{spot_at, spot_in_list}
 use Rattle.flow_facts.specs.Points.{point_at}
 use Rattle.flow_facts.proofs.Views.{spot_there}

@@ -1,4 +1,4 @@
-use Rattle.std.proofs.Common.{◌≡◌, ◌<◌, ℕ, length, List, [], Option, Some, option_map, unwrap_or, slice_get, ap, sym, ◌∙◌, subst}
+use Rattle.std.proofs.Common.{◌<◌, length, [], Option, Some, option_map, unwrap_or, ap, sym, ◌∙◌, subst}
 use Rattle.std.proofs.lemmas.List.{length-map}
 use Rattle.std.proofs.lemmas.Option.{slice_get_within, slice_get-map}
 use Rattle.flow_points.specs.PointLists.{Point, at, points_of, next_points, point_at as graph_point}
