@@ -9,8 +9,8 @@ ghost use Rattle.c_reader.specs.Pieces.{any, at, word};
 ghost use Rattle.c_reader.specs.States.{Expects, Reads, Stops, opened, only, right_from, firsts, second};
 
 use crate::signs::number;
-use c_tables::Nonterminal;
 use c_lexer::{Token, TokenClass};
+use c_tables::Nonterminal;
 use c_tree::Word;
 use ll_core::{END_OF_TEXT, Grammar, Machine, ParseStop};
 use misra_base::{Name, Place};

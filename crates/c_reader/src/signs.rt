@@ -19,50 +19,95 @@ pub fn number(class: TokenClass) -> u16
 }
 
 const ASTERISK: u16 = TokenClass::Asterisk as u16;
+
 const SLASH: u16 = TokenClass::Slash as u16;
+
 const PERCENT: u16 = TokenClass::Percent as u16;
+
 const PLUS: u16 = TokenClass::Plus as u16;
+
 const MINUS: u16 = TokenClass::Minus as u16;
+
 const SHIFT_LEFT: u16 = TokenClass::ShiftLeft as u16;
+
 const SHIFT_RIGHT: u16 = TokenClass::ShiftRight as u16;
+
 const LESS: u16 = TokenClass::Less as u16;
+
 const GREATER: u16 = TokenClass::Greater as u16;
+
 const LESS_EQUAL: u16 = TokenClass::LessEqual as u16;
+
 const GREATER_EQUAL: u16 = TokenClass::GreaterEqual as u16;
+
 const EQUAL: u16 = TokenClass::Equal as u16;
+
 const NOT_EQUAL: u16 = TokenClass::NotEqual as u16;
+
 const AMPERSAND: u16 = TokenClass::Ampersand as u16;
+
 const CARET: u16 = TokenClass::Caret as u16;
+
 const BAR: u16 = TokenClass::Bar as u16;
+
 const AND: u16 = TokenClass::And as u16;
+
 const OR: u16 = TokenClass::Or as u16;
+
 const TILDE: u16 = TokenClass::Tilde as u16;
+
 const EXCLAMATION: u16 = TokenClass::Exclamation as u16;
+
 const STATIC: u16 = TokenClass::Static as u16;
+
 const EXTERN: u16 = TokenClass::Extern as u16;
+
 const INLINE: u16 = TokenClass::Inline as u16;
+
 const THREAD_LOCAL: u16 = TokenClass::ThreadLocal as u16;
+
 const CONST: u16 = TokenClass::Const as u16;
+
 const VOLATILE: u16 = TokenClass::Volatile as u16;
+
 const ATOMIC: u16 = TokenClass::Atomic as u16;
+
 const VOID: u16 = TokenClass::Void as u16;
+
 const CHAR: u16 = TokenClass::Char as u16;
+
 const SHORT: u16 = TokenClass::Short as u16;
+
 const INT: u16 = TokenClass::Int as u16;
+
 const LONG: u16 = TokenClass::Long as u16;
+
 const SIGNED: u16 = TokenClass::Signed as u16;
+
 const UNSIGNED: u16 = TokenClass::Unsigned as u16;
+
 const BOOL: u16 = TokenClass::Bool as u16;
+
 const ASSIGN: u16 = TokenClass::Assign as u16;
+
 const MULTIPLY_ASSIGN: u16 = TokenClass::MultiplyAssign as u16;
+
 const DIVIDE_ASSIGN: u16 = TokenClass::DivideAssign as u16;
+
 const REMAINDER_ASSIGN: u16 = TokenClass::RemainderAssign as u16;
+
 const ADD_ASSIGN: u16 = TokenClass::AddAssign as u16;
+
 const SUBTRACT_ASSIGN: u16 = TokenClass::SubtractAssign as u16;
+
 const SHIFT_LEFT_ASSIGN: u16 = TokenClass::ShiftLeftAssign as u16;
+
 const SHIFT_RIGHT_ASSIGN: u16 = TokenClass::ShiftRightAssign as u16;
+
 const AND_ASSIGN: u16 = TokenClass::AndAssign as u16;
+
 const XOR_ASSIGN: u16 = TokenClass::XorAssign as u16;
+
 const OR_ASSIGN: u16 = TokenClass::OrAssign as u16;
 
 /// The token by which a binary operator is written (C11 6.5.5 to 6.5.14).

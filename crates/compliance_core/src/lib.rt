@@ -7,7 +7,6 @@ mod laws;
 mod levels;
 mod pattern;
 mod plan;
-
 #[cfg(test)]
 mod tests;
 

@@ -1,0 +1,10 @@
+pub mod Covering
+pub mod Deviating
+pub mod Keeping
+pub mod Numbering
+pub mod Putting
+pub mod Repeating
+pub mod Replanning
+pub mod Sorting
+pub mod Staying
+pub mod Stepping
