@@ -2,6 +2,8 @@
 use Rattle.std.specs.Prelude.{◌≡◌, ◌⊎◌, ℕ, ◌<◌, Bool, true, false, List, Option, Some, None}
 use Rattle.misra_base.specs.declared.guideline.Guideline.{Guideline}
 use Rattle.misra_base.specs.declared.guideline.Guideline.TheVariants.{D5_1, D5_2, D5_3, R15_4, R15_5, R17_7, R17_8, R21_25, R21_26, R22_11, R22_12, R22_13, R22_14, R22_15, R22_16, R22_17, R22_18, R22_19, R22_20}
+use Rattle.misra_base.specs.declared.kind.Kind.{Kind}
+use Rattle.misra_base.specs.declared.kind.Kind.TheVariants as kinds
 use Rattle.misra_base.specs.declared.place.Place.{Place}
 use Rattle.c_program.specs.declared.action.Act.{Act}
 use Rattle.c_program.specs.declared.program.Storage.TheVariants as storage
@@ -29,38 +31,12 @@ pub data Subject : Type 0 where
   Named_location : (location : Location) → Subject
   Named : (name : List ℕ) → Subject
 
--- the words of the table's last column
-pub data Kind : Type 0 where
-  Race : Kind
-  Cycle : Kind
-  Outside : Kind
-  Repeated : Kind
-  A_break : Kind
-  A_return : Kind
-  Unused : Kind
-  A_parameter : Kind
-  Weak_order : Kind
-  Of_kind : Kind
-  Again : Kind
-  An_access : Kind
-  Of_automatic : Kind
-  Of_thread_storage : Kind
-  Before_its_life : Kind
-  A_second : Kind
-  Of_dead : Kind
-  Of_busy : Kind
-  At_end : Kind
-  Destroyed : Kind
-  An_unlock : Kind
-  A_wait : Kind
-  Dependent : Kind
-
 abbrev pub unlock_or_wait : Act → Kind
 unlock_or_wait action = if_wait (is_wait action)
   where
     if_wait : Bool → Kind
-    if_wait true = A_wait
-    if_wait false = An_unlock
+    if_wait true = kinds.Wait
+    if_wait false = kinds.Unlock
 
 -- Rules 22.14 and 22.20 share their rows: the one is of mutexes and condition variables, the other of keys
 abbrev pub rule_of_sort : Sort → Option Guideline
@@ -82,47 +58,47 @@ spot_place program point = place_of program point.spot.action
 -- a guideline's own finding: its place, what it names, its kind, and the place of another access
 pub data Found (program : Program) (facts : Facts) : Guideline → Place → Subject → Kind → Option Place → Type 0 where
   race : (s t : List Spot) (p q : Point) (region : Location) → MayRace program facts s p region t q
-      → Found program facts D5_1 (spot_place program p) (Named_location region) Race (Some (spot_place program q))
+      → Found program facts D5_1 (spot_place program p) (Named_location region) kinds.Race (Some (spot_place program q))
   cycle : (t : List Spot) (p : Point) (object : Location) → MayBlock program facts t p object
-      → Found program facts D5_2 (spot_place program p) (Named_location object) Cycle None
-  creation_outside : (t : List Spot) (p : Point) → CreatesOutside program t p → Found program facts D5_3 (spot_place program p) Nothing_named Outside None
-  creation_repeated : (p : Point) → CreatesRepeatedly program p → Found program facts D5_3 (spot_place program p) Nothing_named Repeated None
-  later_break : (place : Place) → IsLaterBreak program place → Found program facts R15_4 place Nothing_named A_break None
-  early_return : (place : Place) → IsEarlyReturn program place → Found program facts R15_5 place Nothing_named A_return None
-  unused : (call : PlacedName) → IsUnusedCall program call → Found program facts R17_7 call.place (Named call.name) Unused None
-  parameter : (p : PlacedName) → ChangesParameter program p → Found program facts R17_8 p.place (Named p.name) A_parameter None
-  weak_order : (action : ℕ) → HasWeakOrder program action → Found program facts R21_25 (place_of program action) Nothing_named Weak_order None
-  kind : (t : List Spot) (p : Point) (m : Location) → LocksUntimed program facts t p m → Found program facts R21_26 (spot_place program p) (Named_location m) Of_kind None
+      → Found program facts D5_2 (spot_place program p) (Named_location object) kinds.Cycle None
+  creation_outside : (t : List Spot) (p : Point) → CreatesOutside program t p → Found program facts D5_3 (spot_place program p) Nothing_named kinds.Outside None
+  creation_repeated : (p : Point) → CreatesRepeatedly program p → Found program facts D5_3 (spot_place program p) Nothing_named kinds.Repeated None
+  later_break : (place : Place) → IsLaterBreak program place → Found program facts R15_4 place Nothing_named kinds.Break None
+  early_return : (place : Place) → IsEarlyReturn program place → Found program facts R15_5 place Nothing_named kinds.Return None
+  unused : (call : PlacedName) → IsUnusedCall program call → Found program facts R17_7 call.place (Named call.name) kinds.Unused None
+  parameter : (p : PlacedName) → ChangesParameter program p → Found program facts R17_8 p.place (Named p.name) kinds.Parameter None
+  weak_order : (action : ℕ) → HasWeakOrder program action → Found program facts R21_25 (place_of program action) Nothing_named kinds.Order None
+  kind : (t : List Spot) (p : Point) (m : Location) → LocksUntimed program facts t p m → Found program facts R21_26 (spot_place program p) (Named_location m) kinds.Kind None
   joined_again : (t : List Spot) (p : Point) (object : Location) → ReleasesAgain program facts t p object
-      → Found program facts R22_11 (spot_place program p) (Named_location object) Again None
-  joined_outside : (t : List Spot) (p : Point) (object : Location) → ReleasesOutside program facts t p object
-      → Found program facts R22_11 (spot_place program p) (Named_location object) Outside None
-  touch : (action : ℕ) → IsTouch program action → Found program facts R22_12 (place_of program action) Nothing_named An_access None
+      → Found program facts R22_11 (spot_place program p) (Named_location object) kinds.Again None
+  joined_outside : (t : List Spot) (p : Point) (object : Location) → ReleasesOutside program facts.names t p object
+      → Found program facts R22_11 (spot_place program p) (Named_location object) kinds.Outside None
+  touch : (action : ℕ) → IsTouch program action → Found program facts R22_12 (place_of program action) Nothing_named kinds.Access None
   automatic : (object : Object) → is_declared object ≡ true → HoldsLibrary program storage.Automatic object
-      → Found program facts R22_13 object.place (Named object.name) Of_automatic None
-  thread_storage : (object : Object) → HoldsLibrary program storage.Thread object → Found program facts R22_13 object.place (Named object.name) Of_thread_storage None
+      → Found program facts R22_13 object.place (Named object.name) kinds.Automatic None
+  thread_storage : (object : Object) → HoldsLibrary program storage.Thread object → Found program facts R22_13 object.place (Named object.name) kinds.Thread None
   before : (rule : Guideline) (sort : Sort) → rule_of_sort sort ≡ Some rule → (t : List Spot) (p : Point) (location : Location) → MayBeBefore program facts t p sort location
-      → Found program facts rule (spot_place program p) (Named_location location) Before_its_life None
+      → Found program facts rule (spot_place program p) (Named_location location) kinds.Before None
   second : (rule : Guideline) (sort : Sort) → rule_of_sort sort ≡ Some rule → (t : List Spot) (p : Point) (location : Location) → MayBeSecond program facts t p sort location
-      → Found program facts rule (spot_place program p) (Named_location location) A_second None
+      → Found program facts rule (spot_place program p) (Named_location location) kinds.Second None
   made_outside : (rule : Guideline) (sort : Sort) → rule_of_sort sort ≡ Some rule → (t : List Spot) (p : Point) (location : Location)
-      → IsOutside program facts t p Initialises sort location → Found program facts rule (spot_place program p) (Named_location location) Outside None
+      → IsOutside program facts.names t p Initialises sort location → Found program facts rule (spot_place program p) (Named_location location) kinds.Outside None
   dead : (sort : Sort) → HasLife sort → (t : List Spot) (p : Point) (location : Location) → MayBeDead program facts t p sort location
-      → Found program facts R22_15 (spot_place program p) (Named_location location) Of_dead None
+      → Found program facts R22_15 (spot_place program p) (Named_location location) kinds.Dead None
   busy : (sort : Sort) → HasLife sort → (p : Point) (location : Location) → MayBeBusy program facts p sort location
-      → Found program facts R22_15 (spot_place program p) (Named_location location) Of_busy None
+      → Found program facts R22_15 (spot_place program p) (Named_location location) kinds.Busy None
   destroyed_outside : (sort : Sort) → HasLife sort → (t : List Spot) (p : Point) (location : Location)
-      → IsOutside program facts t p Ends_life sort location → Found program facts R22_15 (spot_place program p) (Named_location location) Outside None
+      → IsOutside program facts.names t p Ends_life sort location → Found program facts R22_15 (spot_place program p) (Named_location location) kinds.Outside None
   kept_at_end : (t : List Spot) (p : Point) (m : Location) → IsReachable program t p → IsKeptAtEnd program facts.names t p m
-      → Found program facts R22_16 (spot_place program p) (Named_location m) At_end None
+      → Found program facts R22_16 (spot_place program p) (Named_location m) kinds.End None
   destroyed : (t : List Spot) (p : Point) (m : Location) → IsReachable program t p → IsDestroyedOwned program facts.names t p m
-      → Found program facts R22_16 (spot_place program p) (Named_location m) Destroyed None
+      → Found program facts R22_16 (spot_place program p) (Named_location m) kinds.Destroyed None
   given_up : (t : List Spot) (p : Point) (m : Location) → IsReachable program t p → IsUnlockedUnowned program facts.names t p m
       → Found program facts R22_17 (spot_place program p) (Named_location m) (unlock_or_wait (act_at program p.spot.action)) None
   locked_again : (t : List Spot) (p : Point) (m : Location) → IsReachable program t p → IsLockedAgain program facts.names t p m
-      → Found program facts R22_18 (spot_place program p) (Named_location m) Again None
+      → Found program facts R22_18 (spot_place program p) (Named_location m) kinds.Again None
   waited_with_second : (t : List Spot) (p : Point) (c : Location) → WaitsWithSecond program facts t p c
-      → Found program facts R22_19 (spot_place program p) (Named_location c) A_second None
+      → Found program facts R22_19 (spot_place program p) (Named_location c) kinds.Second None
 
 -- ---- the dependent findings
 
@@ -163,7 +139,7 @@ pub data Finding (program : Program) (facts : Facts) (guideline : Guideline) : P
   own : (place : Place) (subject : Subject) (kind : Kind) (other : Option Place) → Found program facts guideline place subject kind other
       → Finding program facts guideline place subject kind other
   dependent : (place : Place) → is_semantic guideline ≡ true → IsFirstInText program facts place
-      → Finding program facts guideline place Nothing_named Dependent None
+      → Finding program facts guideline place Nothing_named kinds.Dependent None
 
 -- the guideline has no finding
 abbrev pub IsClean : Program → Facts → Guideline → Type 0

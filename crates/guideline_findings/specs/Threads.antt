@@ -9,7 +9,8 @@ use Rattle.c_program.specs.Paths.{IsCyclic}
 use Rattle.static_facts.specs.ObjectStates.{Is_joined, Is_detached}
 use Rattle.static_facts.specs.Facts.{Facts, ThreadMayBe}
 use Rattle.static_facts.specs.Points.{IsReachable, is_creation}
-use Rattle.static_facts.specs.Candidates.{IsCandidate, is_join, is_detachment}
+use Rattle.static_facts.specs.Candidates.{IsCandidate, releases_thread}
+use Rattle.pointer_targets.specs.Names.{Names}
 
 -- `outside`: a creation point not in the initial thread
 pub record CreatesOutside (program : Program) (thread : List Spot) (point : Point) : Type 0 where
@@ -24,17 +25,17 @@ pub record CreatesRepeatedly (program : Program) (point : Point) : Type 0 where
   pub cyclic : IsCyclic program [] program.main point
 
 -- a candidate of a join or a detachment
-pub record Releases (program : Program) (facts : Facts) (thread : List Spot) (point : Point) (object : Location) : Type 0 where
+pub record Releases (program : Program) (names : Names) (thread : List Spot) (point : Point) (object : Location) : Type 0 where
   pub reachable : IsReachable program thread point
-  pub is : (is_join (act_at program point.spot.action) || is_detachment (act_at program point.spot.action)) ≡ true
-  pub candidate : IsCandidate program facts.names point 0 A_thread object
+  pub releases : releases_thread (act_at program point.spot.action) ≡ true
+  pub candidate : IsCandidate program names point 0 A_thread object
 
 -- `again`: a candidate that may be joined or detached
 pub record ReleasesAgain (program : Program) (facts : Facts) (thread : List Spot) (point : Point) (object : Location) : Type 0 where
-  pub releases : Releases program facts thread point object
+  pub releases : Releases program facts.names thread point object
   pub was : ThreadMayBe facts thread point object Is_joined ⊎ ThreadMayBe facts thread point object Is_detached
 
 -- `outside`: a candidate of a join or a detachment outside the initial thread
-pub record ReleasesOutside (program : Program) (facts : Facts) (thread : List Spot) (point : Point) (object : Location) : Type 0 where
-  pub releases : Releases program facts thread point object
+pub record ReleasesOutside (program : Program) (names : Names) (thread : List Spot) (point : Point) (object : Location) : Type 0 where
+  pub releases : Releases program names thread point object
   pub elsewhere : thread ≢ []

@@ -3,6 +3,7 @@
 -- action creates a thread, no run has a race.
 use Rattle.std.proofs.Common.{◌≡◌, refl, sym, subst, ap, ◌∙◌, Bool, true, false, ◌&&◌, ℕ, List, [], ◌∷◌, Option, Some, None}
 use Rattle.misra_base.specs.declared.guideline.Guideline.TheVariants.{D5_1}
+use Rattle.misra_base.specs.declared.kind.Kind.{Kind}
 use Rattle.misra_base.specs.declared.place.Place.{Place}
 use Rattle.c_program.specs.declared.program.Program.{Program}
 use Rattle.c_program.specs.Syntax.{act_at}
@@ -16,12 +17,12 @@ use Rattle.c_program.specs.Paths.{LeadsTo, initial as at_main, by_call, by_creat
 use Rattle.c_program.proofs.Cells.{and_true}
 use Rattle.static_facts.specs.Order.{Ordered, in_initial}
 use Rattle.static_facts.specs.Facts.{Facts, AreOrdered}
-use Rattle.guideline_findings.specs.Candidates.{is_creation}
-use Rattle.guideline_findings.specs.Findings.{Subject, Kind, rule_of_sort, Found, race, before, second, made_outside, own, dependent, IsClean}
-use Rattle.guideline_silence.specs.Premises.{HasCleanText}
-use Rattle.soundness.specs.Texts.{IsOfText}
+use Rattle.guideline_findings.specs.Findings.{Subject, rule_of_sort, Found, race, before, second, made_outside, own, dependent, IsClean}
 use Rattle.static_facts.specs.Analyses.{AreSound}
-use Rattle.soundness.proofs.Whole.{silence}
+use Rattle.soundness.proofs.AllSilence.{silent}
+use Rattle.static_facts.specs.Points.{is_creation}
+use Rattle.guideline_findings.specs.Silence.{HasCleanText}
+use Rattle.guideline_findings.specs.Texts.{IsOfText}
 
 is_initial : List Spot → Bool
 is_initial [] = true
@@ -49,8 +50,10 @@ module _ (program : Program) where
   pub coarse_sound : AreSound program coarse
   unfolding coarse
   coarse_sound = record {
-    may_name = λ thread point argument location is c. refl;
-    is_exact = λ thread point argument location is e. absurd (cc);
+    names = record {
+      may_name = λ thread point argument location is c. refl;
+      is_exact = λ thread point argument location is e. absurd (cc);
+    };
     accesses = λ thread point region manner is c. refl;
     ordered = λ s t p q first second e. let b = and_true (is_initial s) (is_initial t) e in both_initial s t p q (initial s b.0) (initial t b.1);
     thread_may_be = λ thread point object state is c. refl;
@@ -86,9 +89,9 @@ module _ (program : Program) (alone : (action : ℕ) → is_creation (act_at pro
   not_found _ _ _ _ (made_outside rule sort e t p location f) = no_life_rule sort e
 
   clean : HasCleanText program coarse → IsClean program coarse D5_1
-  clean text place subject kind other (own _ _ _ _ f) = not_found place subject kind other f
-  clean text place subject kind other (dependent _ semantic f) = text place f.found
+  clean text place subject k other (own _ _ _ _ f) = not_found place subject k other f
+  clean text place subject k other (dependent _ semantic f) = text place f.found
 
   -- a program of one thread has no race
   pub no_race : IsWellFormed program → IsOfText program → HasCleanText program coarse → (run : List Choice) → IsRun program run → Breaks D5_1 program run → ⊥
-  no_race well text none = silence program well text coarse (coarse_sound program) D5_1 (clean none)
+  no_race well text none = silent program well text coarse (coarse_sound program) D5_1 (clean none)

@@ -27,20 +27,22 @@ use Rattle.pointer_targets.specs.Places.{Of_all, Place, place_in}
 use Rattle.pointer_targets.specs.PointsTo
 use Rattle.pointer_targets.specs.PointsTo.{MayPointTo}
 use Rattle.pointer_targets.specs.Candidates.{MayName, LiesAt}
-use Rattle.pointer_targets.specs.Accesses.{DataAccess, writes_at, MayAccess, at_scalar, at_part, MayTouch}
-use Rattle.static_facts.specs.ObjectStates.{ObjectState, Is_unmade as Unmade, doing_of}
+use Rattle.pointer_targets.specs.Accesses.{DataAccess, writes_at, at_scalar, at_part, MayTouch, MayAccess}
+use Rattle.static_facts.specs.ObjectStates.{ObjectState, Is_unmade, doing_of, Is_live, Is_joined, Is_detached, Is_dead, IsStateOf}
 use Rattle.static_facts.specs.ObjectPaths.{Mark, Follows_none, At, ObjectStep, follows_none, passes, moves, leaves, succeeds, fails, may_succeed, may_fail, elsewhere, states, MayBeAlong}
-use Rattle.static_facts.specs.ThreadStates.{is_creation, MayBe, along, made_outside}
+use Rattle.static_facts.specs.ThreadStates.{MayBe, along, made_outside}
 use Rattle.static_facts.specs.Lives.{MayLive, in_initial, in_created}
 use Rattle.static_facts.specs.Order.{Ordered, in_initial as in_main}
-use Rattle.static_facts.specs.Facts.{Facts, Manner, ThreadState, No_thread, A_thread_runs, Was_joined, Was_detached, LifeState, Is_unmade, Is_alive, Is_dead}
+use Rattle.static_facts.specs.Facts.{Facts}
 use Rattle.guideline_findings.specs.Text.{declares_object}
-use Rattle.guideline_silence.specs.Laws.{IsSilent}
-use Rattle.soundness.specs.Texts.{HasTouch, IsOfText}
 use Rattle.pointer_targets.specs.Tellings.{Tells}
-use Rattle.static_facts.specs.Analyses.{MayAccessAt, state_of_thread, state_of_life, AreExact}
+use Rattle.static_facts.specs.Analyses.{AreExact}
+use Rattle.soundness.proofs.AllSilence.{silent as all_silent}
 use Rattle.soundness.proofs.Halves.{sound}
-use Rattle.soundness.proofs.Whole.{silence}
+use Rattle.pointer_targets.specs.Manners.{Manner, MayAccessAt}
+use Rattle.static_facts.specs.Points.{is_creation}
+use Rattle.guideline_findings.specs.Silence.{IsSilent}
+use Rattle.guideline_findings.specs.Texts.{IsOfText}
 
 -- static int x; int main(void) { x = 1; return 0; }
 abbrev writer : Program
@@ -98,12 +100,6 @@ no_call : (n : ℕ) (call : LibraryCall) (into : Option LocalOf) → act_at writ
 unfolding IsPlainAct
 no_call n call into e = which n _ e
 
-declares_none : (n : ℕ) → declares_object (act_at writer n) ≡ None
-unfolding act_at
-declares_none zero = refl
-declares_none (suc zero) = refl
-declares_none (suc (suc n)) = refl
-
 none_done : (sort : Sort) (n : ℕ) → doing_of sort (act_at writer n) ≡ None
 unfolding act_at
 none_done A_mutex zero = refl
@@ -135,14 +131,7 @@ same_some : {A : Type 0} (a b : A) → Some a ≡ Some b → a ≡ b
 same_some a b e = cc
 
 is_of_text : IsOfText writer
-is_of_text = record {
-  declarations = λ action object d o h. none_some object (sym (declares_none action) ∙ d);
-  fresh = fresh;
-}
-  where
-    fresh : (n : ℕ) (o : ObjectOf) → object_at writer n ≡ Some o → is_declared o ≡ false → holds_library writer o.c_type ≡ true → HasTouch writer
-    fresh zero o e d h = true_false (sym h ∙ ap (λ (x : ObjectOf). holds_library writer x.c_type) (sym (same_some _ o e)))
-    fresh (suc n) o e d h = none_some o e
+is_of_text = record { declarations = refl; fresh = refl }
 
 -- ---- its points
 
@@ -187,22 +176,18 @@ is_whole (step ∷ steps) = false
 abbrev is_x : Location → Bool
 is_x location = (location.object == 0) && is_whole location.steps
 
-abbrev is_none : ThreadState → Bool
-is_none No_thread = true
-is_none _ = false
-
-abbrev is_before : LifeState → Bool
-is_before Is_unmade = true
-is_before _ = false
+abbrev is_unmade : ObjectState → Bool
+is_unmade Is_unmade = true
+is_unmade _ = false
 
 abbrev facts : Facts
 facts = record {
   names = record { may_name = λ point argument location. false; is_exact = λ point argument location. false };
   accesses = λ point region manner. (point.spot.action == 0) && (manner.writes && (not manner.is_atomic && is_x region));
   ordered = λ s p t q. true;
-  thread_may_be = λ thread point object state. is_none state;
+  thread_may_be = λ thread point object state. is_unmade state;
   plain_object = λ thread. None;
-  life_may_be = λ thread point sort location state. is_before state;
+  life_may_be = λ thread point sort location state. is_unmade state;
 }
 
 -- ---- accesses: the write of x
@@ -288,7 +273,7 @@ accesses region manner point (inr e) = subst (λ p. Tells (facts.accesses p regi
 
 abbrev IsUnmadeMark : Mark → Type 0
 IsUnmadeMark Follows_none = Unit {0}
-IsUnmadeMark (At state outcome) = state ≡ Unmade
+IsUnmadeMark (At state outcome) = state ≡ Is_unmade
 
 module _ (sort : Sort) (object : Location) where
   step_unmade : (point : Point) (pair : ℕ) (before behind : Mark) → ObjectStep writer facts.names sort object point pair before behind → IsUnmadeMark before → IsUnmadeMark behind
@@ -307,16 +292,16 @@ module _ (sort : Sort) (object : Location) where
   comes_unmade thread function _ _ (at_entry mark (inr s)) = subst IsUnmadeMark (sym s.1) tt
   comes_unmade thread function _ _ (by_move control pair move before behind c m s) = step_unmade _ pair before behind s (comes_unmade thread function control before c)
 
-  along_unmade : (point : Point) (state : ObjectState) → MayBeAlong writer facts.names sort object point state → state ≡ Unmade
+  along_unmade : (point : Point) (state : ObjectState) → MayBeAlong writer facts.names sort object point state → state ≡ Is_unmade
   along_unmade point state m = comes_unmade [] m.1.function m.1.control (At state m.0) m.1.comes
 
-  abbrev entry : Comes writer (states writer facts.names sort object) [] 0 (entered writer 0) (At Unmade None)
-  entry = at_entry (At Unmade None) (inl (refl, refl))
+  abbrev entry : Comes writer (states writer facts.names sort object) [] 0 (entered writer 0) (At Is_unmade None)
+  entry = at_entry (At Is_unmade None) (inl (refl, refl))
 
-  at_write : MayBeAlong writer facts.names sort object (at 0) Unmade
+  at_write : MayBeAlong writer facts.names sort object (at 0) Is_unmade
   at_write = (None, record { function = 0; leads = at_main; control = entered writer 0; move = record { action = 0; left = Run (Do 1) ∷ [] }; comes = entry; offers = (0, refl); here = refl })
 
-  at_return : MayBeAlong writer facts.names sort object (at 1) Unmade
+  at_return : MayBeAlong writer facts.names sort object (at 1) Is_unmade
   unfolding act_at
   at_return = (
     None,
@@ -325,45 +310,43 @@ module _ (sort : Sort) (object : Location) where
       leads = at_main;
       control = Run (Do 1) ∷ [];
       move = record { action = 1; left = [] };
-      comes = by_move (entered writer 0) 0 (record { action = 0; left = Run (Do 1) ∷ [] }) (At Unmade None) (At Unmade None) entry refl (passes Unmade None (none_done sort 0) refl);
+      comes = by_move (entered writer 0) 0 (record { action = 0; left = Run (Do 1) ∷ [] }) (At Is_unmade None) (At Is_unmade None) entry refl (passes Is_unmade None (none_done sort 0) refl);
       offers = (0, refl);
       here = refl;
     },
   )
 
-  unmade : (point : Point) → (point ≡ at 0) ⊎ (point ≡ at 1) → MayBeAlong writer facts.names sort object point Unmade
-  unmade point (inl e) = subst (λ p. MayBeAlong writer facts.names sort object p Unmade) (sym e) at_write
-  unmade point (inr e) = subst (λ p. MayBeAlong writer facts.names sort object p Unmade) (sym e) at_return
+  unmade : (point : Point) → (point ≡ at 0) ⊎ (point ≡ at 1) → MayBeAlong writer facts.names sort object point Is_unmade
+  unmade point (inl e) = subst (λ p. MayBeAlong writer facts.names sort object p Is_unmade) (sym e) at_write
+  unmade point (inr e) = subst (λ p. MayBeAlong writer facts.names sort object p Is_unmade) (sym e) at_return
 
-may_be_unmade : (object : Location) (thread : List Spot) (point : Point) (state : ObjectState) → MayBe writer facts.names object thread point state → state ≡ Unmade
-may_be_unmade object _ _ _ (along point state m) = along_unmade A_thread object point state m
+may_be_unmade : (object : Location) (thread : List Spot) (point : Point) (state : ObjectState) → MayBe writer facts.names object thread point state → state ≡ Is_unmade
+may_be_unmade object _ _ _ (along point state s m) = along_unmade A_thread object point state m
 may_be_unmade object _ _ _ (made_outside thread point state t m) = true_false (sym m.creation.creates ∙ no_creation m.point.spot.action)
 
-may_live_unmade : (sort : Sort) (object : Location) (thread : List Spot) (point : Point) (state : ObjectState) → MayLive writer facts.names sort object thread point state → state ≡ Unmade
-may_live_unmade sort object _ _ _ (in_initial point state m) = along_unmade sort object point state m
+may_live_unmade : (sort : Sort) (object : Location) (thread : List Spot) (point : Point) (state : ObjectState) → MayLive writer facts.names sort object thread point state → state ≡ Is_unmade
+may_live_unmade sort object _ _ _ (in_initial point state s m) = along_unmade sort object point state m
 may_live_unmade sort object _ _ _ (in_created parent creation point state is m) = may_live_unmade sort object parent creation state m
 
-none_is : (state : ThreadState) → state_of_thread state ≡ Unmade → is_none state ≡ true
-none_is No_thread e = refl
-none_is A_thread_runs e = absurd (cc)
-none_is Was_joined e = absurd (cc)
-none_is Was_detached e = absurd (cc)
+told_unmade : (state : ObjectState) → state ≡ Is_unmade → is_unmade state ≡ true
+told_unmade Is_unmade e = refl
+told_unmade Is_live e = absurd (cc)
+told_unmade Is_joined e = absurd (cc)
+told_unmade Is_detached e = absurd (cc)
+told_unmade Is_dead e = absurd (cc)
 
-is_none_state : (state : ThreadState) → is_none state ≡ true → Unmade ≡ state_of_thread state
-is_none_state No_thread e = refl
-is_none_state A_thread_runs e = true_false (sym e)
-is_none_state Was_joined e = true_false (sym e)
-is_none_state Was_detached e = true_false (sym e)
+is_told : (state : ObjectState) → is_unmade state ≡ true → Is_unmade ≡ state
+is_told Is_unmade e = refl
+is_told Is_live e = true_false (sym e)
+is_told Is_joined e = true_false (sym e)
+is_told Is_detached e = true_false (sym e)
+is_told Is_dead e = true_false (sym e)
 
-before_is : (state : LifeState) → state_of_life state ≡ Unmade → is_before state ≡ true
-before_is Is_unmade e = refl
-before_is Is_alive e = absurd (cc)
-before_is Is_dead e = absurd (cc)
-
-is_before_state : (state : LifeState) → is_before state ≡ true → Unmade ≡ state_of_life state
-is_before_state Is_unmade e = refl
-is_before_state Is_alive e = true_false (sym e)
-is_before_state Is_dead e = true_false (sym e)
+unmade_is : (sort : Sort) → IsStateOf sort Is_unmade
+unmade_is A_mutex = tt
+unmade_is A_condition = tt
+unmade_is A_key = tt
+unmade_is A_thread = tt
 
 -- ---- all of them
 
@@ -372,27 +355,29 @@ unnamed point argument location m = no_call point.spot.action m.means.is.call m.
 
 pub exact : AreExact writer facts
 exact = record {
-  may_name = λ thread point argument location is. record { all = λ m. absurd (unnamed point argument location m); only = λ e. true_false (sym e) };
-  is_exact = λ thread point argument location is. record { all = λ m. absurd (unnamed point argument location m.may); only = λ e. true_false (sym e) };
+  names = record {
+    may_name = λ thread point argument location is. record { all = λ m. absurd (unnamed point argument location m); only = λ e. true_false (sym e) };
+    is_exact = λ thread point argument location is. record { all = λ m. absurd (unnamed point argument location m.may); only = λ e. true_false (sym e) };
+  };
   accesses = λ thread point region manner is. accesses region manner point (two thread point is).is;
   ordered = λ s t p q first second. record {
     all = λ o. refl;
     only = λ e. subst (λ y. Ordered writer facts.names y p t q) (sym (two s p first).initial) (subst (λ y. Ordered writer facts.names [] p y q) (sym (two t q second).initial) (in_main p q));
   };
   thread_may_be = λ thread point object state is. record {
-    all = λ m. none_is state (may_be_unmade object thread point (state_of_thread state) m);
-    only = λ e. subst (λ y. MayBe writer facts.names object y point (state_of_thread state)) (sym (two thread point is).initial)
-        (subst (λ y. MayBe writer facts.names object [] point y) (is_none_state state e) (along point Unmade (unmade A_thread object point (two thread point is).is)));
+    all = λ m. told_unmade state (may_be_unmade object thread point state m);
+    only = λ e. subst (λ y. MayBe writer facts.names object y point state) (sym (two thread point is).initial)
+        (subst (λ y. MayBe writer facts.names object [] point y) (is_told state e) (along point Is_unmade tt (unmade A_thread object point (two thread point is).is)));
   };
   plain = λ thread object e. none_some object e;
   all_plain = λ thread object p. true_false (sym p.plain.point.creates ∙ no_creation p.creation.spot.action);
   life_may_be = λ thread point sort location state is n. record {
-    all = λ m. before_is state (may_live_unmade sort location thread point (state_of_life state) m);
-    only = λ e. subst (λ y. MayLive writer facts.names sort location y point (state_of_life state)) (sym (two thread point is).initial)
-        (subst (λ y. MayLive writer facts.names sort location [] point y) (is_before_state state e) (in_initial point Unmade (unmade sort location point (two thread point is).is)));
+    all = λ m. told_unmade state (may_live_unmade sort location thread point state m);
+    only = λ e. subst (λ y. MayLive writer facts.names sort location y point state) (sym (two thread point is).initial)
+        (subst (λ y. MayLive writer facts.names sort location [] point y) (is_told state e) (in_initial point Is_unmade (unmade_is sort) (unmade sort location point (two thread point is).is)));
   };
 }
 
 -- so of this program everything follows
 pub silent : (guideline : Guideline) → IsSilent writer facts guideline
-silent guideline = silence writer well_formed is_of_text facts (sound writer facts exact) guideline
+silent guideline = all_silent writer well_formed is_of_text facts (sound writer facts exact) guideline

@@ -3,15 +3,16 @@ ghost use Rattle.std.specs.Prelude.{◌≡◌};
 ghost use Rattle.misra_base.specs.declared.guideline.Guideline.{Guideline as AGuideline};
 ghost use Rattle.c_program.specs.WellFormed.{IsWellFormed};
 ghost use Rattle.c_program.specs.Laws.{ControlIsSound};
-ghost use Rattle.mutex_ownership.specs.Laws.{EachDepthIsPossible, HeldIsOrdered, IsHandedOver};
+ghost use Rattle.static_facts.specs.OwnerLaws.{EachDepthIsPossible, HeldIsOrdered, IsHandedOver};
 ghost use Rattle.pointer_targets.specs.Escapes.{NoneEscapes};
 ghost use Rattle.pointer_targets.specs.Laws.{EachAddressIsAllowed, EachKeyIsAllowed, EachNameIsAllowed, NoneIsReachedByOthers};
-ghost use Rattle.thread_states.specs.Laws.{OrderedHappenInOrder, ThreadStatesArePossible, UnmadeIsPossible};
+ghost use Rattle.static_facts.specs.ThreadLaws.{OrderedHappenInOrder, UnmadeIsPossible};
+ghost use Rattle.guideline_findings.specs.LifeLaws.{DeadWhereClean, LiveWhereClean, OnlyMainReleases, ThreadStatesArePossible};
 ghost use Rattle.static_facts.specs.Facts.{Facts};
-ghost use Rattle.guideline_silence.specs.Laws.{EachLinkIsAnEdge, EachWaitingCycleIsOfEdges, IsSilent};
-ghost use Rattle.soundness.specs.Texts.{IsOfText};
+ghost use Rattle.guideline_findings.specs.Silence.{IsSilent};
+ghost use Rattle.guideline_findings.specs.Texts.{IsOfText};
+ghost use Rattle.guideline_findings.specs.WaitingLaws.{EachLinkIsAnEdge, EachWaitingCycleIsOfEdges};
 ghost use Rattle.static_facts.specs.Analyses.{AreExact, AreSound};
-ghost use Rattle.soundness.specs.Laws.{DeadWhereClean, LiveWhereClean, OnlyMainReleases};
 
 use c_program::program::Program;
 

@@ -1,5 +1,5 @@
 -- The library objects that a call takes, and the candidates of its arguments.
-use Rattle.std.specs.Prelude.{◌≡◌, ℕ, Bool, true, false, List, [], ◌∷◌, Some}
+use Rattle.std.specs.Prelude.{◌≡◌, ℕ, Bool, true, false, ◌||◌, List, [], ◌∷◌, Some}
 use Rattle.std.specs.List.{Contains}
 use Rattle.c_program.specs.declared.action.LibraryCall.{LibraryCall}
 use Rattle.c_program.specs.declared.action.LibraryCall.TheVariants as lib
@@ -58,6 +58,10 @@ is_join _ = false
 abbrev pub is_detachment : Act → Bool
 is_detachment (act.Library (lib.ThreadDetach o) into) = true
 is_detachment _ = false
+
+-- a join or a detachment
+abbrev pub releases_thread : Act → Bool
+releases_thread action = is_join action || is_detachment action
 
 -- ---- candidates
 

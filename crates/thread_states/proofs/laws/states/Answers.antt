@@ -1,9 +1,0 @@
-use Rattle.thread_states.proofs.Ordering.{what_is_seen}
-use Rattle.thread_states.proofs.SilenceOfReleases.{states_possible}
-use Rattle.thread_states.proofs.laws.states.Goals as goal
-
-pub returns-clause-seen : goal.returns-clause-seen
-returns-clause-seen c names premises = what_is_seen c.args.program.now c.requires names premises
-
-pub returns-clause-threads : goal.returns-clause-threads
-returns-clause-threads c names premises = states_possible c.args.program.now c.requires names premises
