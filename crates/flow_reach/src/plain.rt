@@ -6,7 +6,7 @@ ghost use Rattle.flow_reach.specs.Paths.{plain, IsReached};
 ghost use Rattle.flow_reach.specs.Searches.{IsMarked};
 ghost use Rattle.flow_reach.specs.OneState.{below_one};
 
-use crate::{Track, Reach, reach};
+use crate::{Reach, Track, reach};
 use flow_points::NumberedPoints;
 use flow_points::threads::Threads;
 use std::alloc::{AllocError, Global};
@@ -42,7 +42,11 @@ impl Track for Plain {
 }
 
 /// The points to which some path of their thread comes.
-pub fn reached(alloc: Global, points: &NumberedPoints, threads: &Threads) -> Result<Reach, AllocError>
+pub fn reached(
+    alloc: Global,
+    points: &NumberedPoints,
+    threads: &Threads,
+) -> Result<Reach, AllocError>
     requires creations { threads.now.creations.items ≡ creations_of points.now.graph }
     requires few { length threads.now.creations.items ≤ 64 }
     ensures { IfOk result (λ s. (point : ℕ) → point < length (points_of points.now.graph) → IsMarked s point 0 ↔ IsReached points.now.graph point) }
