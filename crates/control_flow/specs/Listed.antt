@@ -3,6 +3,8 @@ use Rattle.std.specs.Prelude.{ℕ, suc, ◌+◌, nat_lt, if◌then◌else◌, Li
 use Rattle.c_program.specs.declared.statement.Condition.{Condition}
 use Rattle.c_program.specs.declared.statement.Counter.{Counter}
 use Rattle.c_program.specs.declared.statement.Statement.{Statement}
+use Rattle.c_program.specs.Control.{Round, Spot, round_of}
+use Rattle.c_program.specs.Paths.{in_rounds, spots_of, spots_of_condition}
 use Rattle.control_flow.specs.Layout.{size_of, size_of_test, first, first_test, test_node, step_node, nexts_of, nexts_of_test}
 
 abbrev pub size_of_list : List Statement → ℕ
@@ -63,3 +65,17 @@ test_row counter body n here turn = if nat_lt turn counter.turns
 abbrev pub turn_rows : Counter → Statement → ℕ → ℕ → List (List ℕ)
 turn_rows counter body n turn = (test_node n (suc turn) ∷ [])
     ∷ nexts_of body (suc (step_node n counter (size_of body) turn)) (step_node n counter (size_of body) turn ∷ []) [] (step_node n counter (size_of body) turn ∷ [])
+
+-- ---- spots
+
+abbrev pub spots_of_list : List Round → List Statement → List Spot
+spots_of_list rounds [] = []
+spots_of_list rounds (s ∷ all) = spots_of rounds s ++ spots_of_list rounds all
+
+abbrev pub spots_of_operands : List Round → List Condition → List Spot
+spots_of_operands rounds [] = []
+spots_of_operands rounds (c ∷ all) = spots_of_condition rounds c ++ spots_of_operands rounds all
+
+-- the step and the body of a counted loop in a turn
+abbrev pub spots_of_turn : Counter → Statement → List Round → ℕ → List Spot
+spots_of_turn counter body rounds turn = in_rounds (round_of counter turn ∷ rounds) counter.step ∷ spots_of (round_of counter turn ∷ rounds) body
