@@ -130,13 +130,13 @@ module _ (program : Program) (well : IsWellFormed program) (names : Names) (prem
 
       busy_end : how ≡ Ends_life → thread ≡ 0 → BusyBy (state_after program run) thread cell → ⊥
       busy_end h z k = none.busy sort no_thread (stands_at [] control move) b.location
-        (subst (λ (l : List Spot). Accesses program names l (stands_at l control move) Ends_life sort b.location) initial
-            (subst (λ (x : How). Accesses program names origin point x sort b.location) h b.access))
-        (origin_of program a.moment) (λ o. true_false (k.other == thread) (eq-eqb k.other thread (sym a.by ∙ initial_moves program well run a.position a.moment good a.at o ∙ sym z)) k.apart)
-        (stands_at (origin_of program a.moment) a.is.by.control a.moment.move) a.how
-        (subst (λ (l : Location). Accesses program names (origin_of program a.moment) (stands_at (origin_of program a.moment) a.is.by.control a.moment.move) a.how sort l)
-            (one_location a.stands.location a.stands.at.here) a.stands.access)
-        settled_ends
+          (subst (λ (l : List Spot). Accesses program names l (stands_at l control move) Ends_life sort b.location) initial
+          (subst (λ (x : How). Accesses program names origin point x sort b.location) h b.access))
+          (origin_of program a.moment) (λ o. true_false (k.other == thread) (eq-eqb k.other thread (sym a.by ∙ initial_moves program well run a.position a.moment good a.at o ∙ sym z)) k.apart)
+          (stands_at (origin_of program a.moment) a.is.by.control a.moment.move) a.how
+          (subst (λ (l : Location). Accesses program names (origin_of program a.moment) (stands_at (origin_of program a.moment) a.is.by.control a.moment.move) a.how sort l)
+          (one_location a.stands.location a.stands.at.here) a.stands.access)
+          settled_ends
         where
           a : AccessedBy program well names premises static run k.other sort cell
           a = accessed_by program well names premises static sort no_thread cell b.at.of_sort run good k.other k.accessed
@@ -193,9 +193,9 @@ module _ (program : Program) (well : IsWellFormed program) (names : Names) (prem
 
         needed : ⊥
         needed = none.busy sort no_thread (stands_at [] d.by.control x.moment.move) b.location
-          (subst (λ (l : Location). Accesses program names [] (stands_at [] d.by.control x.moment.move) Ends_life sort l) (one_location ends_at.location ends_at.at.here)
-              (subst (λ (l : List Spot). Accesses program names l (stands_at l d.by.control x.moment.move) Ends_life sort ends_at.location) initial_end ends_at.access))
-          origin (created_thread program well run good thread control frames None stands created) point how b.access not_settled
+            (subst (λ (l : Location). Accesses program names [] (stands_at [] d.by.control x.moment.move) Ends_life sort l) (one_location ends_at.location ends_at.at.here)
+            (subst (λ (l : List Spot). Accesses program names l (stands_at l d.by.control x.moment.move) Ends_life sort ends_at.location) initial_end ends_at.access))
+            origin (created_thread program well run good thread control frames None stands created) point how b.access not_settled
 
       dead_use : (IsUseOrEnd how) → life program well sort no_thread cell run ≡ 2 → ⊥
       dead_use start dead = by_thread (thread == 0) refl

@@ -214,9 +214,9 @@ module _ (program : Program) (well : IsWellFormed program) (names : Names) (prem
         second h l true z = none.second sort no_thread k (origin_in program run thread) point b.location
             (subst (λ (x : How). Accesses program names (origin_in program run thread) point x sort b.location) h b.access)
             (subst (λ n. MayLive program names sort b.location (origin_in program run n) (stands_at (origin_in program run n) control move) Is_live) (sym (eqb-true thread 0 z))
-              (initial_lives program well sort no_thread cell names premises b.location b.at Is_live tt run good control frames None move
-              (ap (λ n. ((state_after program run).thread n).stand) (sym (eqb-true thread 0 z)) ∙ s) o
-              (live_seen program well sort no_thread cell (alone sort no_thread k cell) run good l)))
+            (initial_lives program well sort no_thread cell names premises b.location b.at Is_live tt run good control frames None move
+            (ap (λ n. ((state_after program run).thread n).stand) (sym (eqb-true thread 0 z)) ∙ s) o
+            (live_seen program well sort no_thread cell (alone sort no_thread k cell) run good l)))
 
         go : ((IsUseOrEnd how) × (life_of (state_after program run) sort cell ≡ 0)) ⊎ ((how ≡ Initialises) × (life_of (state_after program run) sort cell ≡ 1)) → ⊥
         go (inl u) = none.before sort no_thread k how u.0 (origin_in program run thread) point b.location b.access

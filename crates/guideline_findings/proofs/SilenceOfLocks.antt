@@ -259,8 +259,13 @@ module _ (program : Program) (well : IsWellFormed program) (names : Names) (prem
         none origin point (begun_location m live.0 b).0 (record {
           ends = ends_at;
           of_mutex = record { cell = m; here = at.here; of_sort = at.of_sort };
-          may_own = (min (depth_with_wait m start choice.thread) 8, (more _ _ z,
-              possible_with_wait program well names premises m (begun_location m live.0 b).0 at run step.good choice.thread step.by.control step.by.frames step.by.inside step.move step.by.stands (choice.pair, step.by.offers)));
+          may_own = (
+            min (depth_with_wait m start choice.thread) 8,
+            (
+              more _ _ z,
+              possible_with_wait program well names premises m (begun_location m live.0 b).0 at run step.good choice.thread step.by.control step.by.frames step.by.inside step.move step.by.stands (choice.pair, step.by.offers),
+            ),
+          );
         })
 
   at_end : Nowhere (IsKeptAtEnd program names) → (last : Moment) → IsMoment program last → finishes last.effect.sync ≡ true → (m : Cell)

@@ -192,7 +192,9 @@ module _ (program : Program) (well : IsWellFormed program) (names : Names) (prem
     releases = e;
     candidate = record {
       named = premises.may_name run thread (stands_at (origin_in program run thread) control move) A_thread 0 cell location good (leads_to run thread control frames move cell s o l) at.here;
-      cell = cell; here = at.here; of_sort = at.of_sort;
+      cell = cell;
+      here = at.here;
+      of_sort = at.of_sort;
     };
   }
 

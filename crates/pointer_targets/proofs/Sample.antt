@@ -71,6 +71,7 @@ is_well_formed = record {
   timespec = refl;
   main = refl;
   counts = record { counts = counts; few = few };
+  typed = refl;
 }
 
 abbrev m : Place

@@ -77,6 +77,7 @@ well_formed = record {
   timespec = refl;
   main = refl;
   counts = record { counts = counts; few = few };
+  typed = refl;
 }
 
 -- ---- its actions: a write, a return, and beyond the table nothing

@@ -179,8 +179,10 @@ module _ (program : Program) (well : IsWellFormed program) (names : Names) (prem
 
         -- the path's step leaves the depth, and the run's does too
         passed : doing_of action ≡ None → follows_outcome point action mark.outcome choice.pair ≡ true → mark.depth ≡ min moved_depth 8 → Goal
-        passed d f e = (marked mark.depth (kept_behind point action mark.outcome),
-            (passes mark.depth mark.outcome d f, agrees_later (marked mark.depth (kept_behind point action mark.outcome)) e (kept mark.outcome outcome_before)))
+        passed d f e = (
+          marked mark.depth (kept_behind point action mark.outcome),
+          (passes mark.depth mark.outcome d f, agrees_later (marked mark.depth (kept_behind point action mark.outcome)) e (kept mark.outcome outcome_before)),
+        )
 
         leads_here : (argument : ℕ) (m : Cell) → step.by.inside ≡ None → Leads (here program state t) action argument m → LeadsToObject program mutex_type run t point argument m
         leads_here argument m e l = record {
@@ -212,12 +214,20 @@ module _ (program : Program) (well : IsWellFormed program) (names : Names) (prem
         called doing m e d n l h k = go (same_cell m c) refl
           where
             go : (b : Bool) → same_cell m c ≡ b → (behind : Mark) × (DepthStep program names location point choice.pair mark behind × Agrees program c t (choice ∷ run) behind)
-            go true s = (marked (min moved_depth 8) (kept_behind point action mark.outcome),
-                (moves mark.depth (min moved_depth 8) mark.outcome doing d n (may_name_here m e l s) (h s),
-                agrees_later (marked (min moved_depth 8) (kept_behind point action mark.outcome)) refl (kept mark.outcome outcome_before)))
-            go false s = (marked mark.depth (kept_behind point action mark.outcome),
-                (leaves mark.depth mark.outcome doing d n (not_exact m e l s),
-                agrees_later (marked mark.depth (kept_behind point action mark.outcome)) (depth_outside e ∙ cut_same _ _ (sym (k s))) (kept mark.outcome outcome_before)))
+            go true s = (
+              marked (min moved_depth 8) (kept_behind point action mark.outcome),
+              (
+                moves mark.depth (min moved_depth 8) mark.outcome doing d n (may_name_here m e l s) (h s),
+                agrees_later (marked (min moved_depth 8) (kept_behind point action mark.outcome)) refl (kept mark.outcome outcome_before),
+              ),
+            )
+            go false s = (
+              marked mark.depth (kept_behind point action mark.outcome),
+              (
+                leaves mark.depth mark.outcome doing d n (not_exact m e l s),
+                agrees_later (marked mark.depth (kept_behind point action mark.outcome)) (depth_outside e ∙ cut_same _ _ (sym (k s))) (kept mark.outcome outcome_before),
+              ),
+            )
 
         used : (sync : Sync) → step.effect.sync ≡ sync → moved_depth ≡ depth_after (use_of sync c) (depth_of t (state.mutex c))
         used sync e = ap (λ (x : Sync). depth_after (use_of x c) (depth_of t (state.mutex c))) e
@@ -340,25 +350,55 @@ module _ (program : Program) (well : IsWellFormed program) (names : Names) (prem
           so_remembered b e = subst (λ x. Behind (remembered_by program point into x)) e (remembered into refl)
 
           exactly : IsExact names point 0 location → same_cell tries.m c ≡ true → (b : Bool) → succeeded ≡ b → Goal
-          exactly x s true e = (marked (one_more mark.depth) (remembered_by program point into true), (succeeds mark.depth mark.outcome into does x,
+          exactly x s true e = (
+            marked (one_more mark.depth) (remembered_by program point into true),
+            (
+              succeeds mark.depth mark.outcome into does x,
               agrees_later (marked (one_more mark.depth) (remembered_by program point into true))
-              (sym (cut_more mark.depth (depth_of t (state.mutex c)) moved_depth (depth_outside outside) (taken_here e s))) (so_remembered true e)))
-          exactly x s false e = (marked mark.depth (remembered_by program point into false), (fails mark.depth mark.outcome into does x,
-              agrees_later (marked mark.depth (remembered_by program point into false)) (depth_outside outside ∙ cut_same _ _ (sym (not_taken e))) (so_remembered false e)))
+                  (sym (cut_more mark.depth (depth_of t (state.mutex c)) moved_depth (depth_outside outside) (taken_here e s))) (so_remembered true e),
+            ),
+          )
+          exactly x s false e = (
+            marked mark.depth (remembered_by program point into false),
+            (
+              fails mark.depth mark.outcome into does x,
+              agrees_later (marked mark.depth (remembered_by program point into false)) (depth_outside outside ∙ cut_same _ _ (sym (not_taken e))) (so_remembered false e),
+            ),
+          )
 
           maybe : (IsExact names point 0 location → ⊥) → MayName names point 0 location → same_cell tries.m c ≡ true → (b : Bool) → succeeded ≡ b → Goal
-          maybe x y s true e = (marked (one_more mark.depth) None, (may_succeed mark.depth mark.outcome into does x y,
+          maybe x y s true e = (
+            marked (one_more mark.depth) None,
+            (
+              may_succeed mark.depth mark.outcome into does x y,
               agrees_later (marked (one_more mark.depth) None)
-              (sym (cut_more mark.depth (depth_of t (state.mutex c)) moved_depth (depth_outside outside) (taken_here e s))) tt))
-          maybe x y s false e = (marked mark.depth None, (may_fail mark.depth mark.outcome into does x y,
-              agrees_later (marked mark.depth None) (depth_outside outside ∙ cut_same _ _ (sym (not_taken e))) tt))
+                  (sym (cut_more mark.depth (depth_of t (state.mutex c)) moved_depth (depth_outside outside) (taken_here e s))) tt,
+            ),
+          )
+          maybe x y s false e = (
+            marked mark.depth None,
+            (
+              may_fail mark.depth mark.outcome into does x y,
+              agrees_later (marked mark.depth None) (depth_outside outside ∙ cut_same _ _ (sym (not_taken e))) tt,
+            ),
+          )
 
           not_this : same_cell tries.m c ≡ false → Goal
           not_this s = elim (decide (names.may_name point 0 location)) [
-            | inl y ↦ (marked mark.depth None, (may_fail mark.depth mark.outcome into does (not_exact tries.m outside tries.leads s) y,
-                agrees_later (marked mark.depth None) (depth_outside outside ∙ cut_same _ _ (sym (elsewhere_taken s))) tt))
-            | inr n ↦ (marked mark.depth (kept_behind point action mark.outcome), (elsewhere mark.depth mark.outcome into does n,
-                agrees_later (marked mark.depth (kept_behind point action mark.outcome)) (depth_outside outside ∙ cut_same _ _ (sym (elsewhere_taken s))) (kept mark.outcome outcome_before)))
+            | inl y ↦ (
+              marked mark.depth None,
+              (
+                may_fail mark.depth mark.outcome into does (not_exact tries.m outside tries.leads s) y,
+                agrees_later (marked mark.depth None) (depth_outside outside ∙ cut_same _ _ (sym (elsewhere_taken s))) tt,
+              ),
+            )
+            | inr n ↦ (
+              marked mark.depth (kept_behind point action mark.outcome),
+              (
+                elsewhere mark.depth mark.outcome into does n,
+                agrees_later (marked mark.depth (kept_behind point action mark.outcome)) (depth_outside outside ∙ cut_same _ _ (sym (elsewhere_taken s))) (kept mark.outcome outcome_before),
+              ),
+            )
           ]
 
           tried : Goal

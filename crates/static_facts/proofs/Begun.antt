@@ -173,28 +173,28 @@ module _ (program : Program) (well : IsWellFormed program) (choice : Choice) (ru
       go None i a = let n = init_named (here program state t) (act_at program step.move.action) m kind request.0
           (subst (λ (q : Request). RequestNames (here program state t) (act_at program step.move.action) q) request.1
           (named (here program state t) (act_at program step.move.action) choice.pair choice.values step.by.ask.request (ap request_in a))) in record {
-        run = run;
-        good = step.good;
-        thread = t;
-        point = stands_at (state.thread t).origin step.by.control step.move;
-        leads = record {
-          control = step.by.control;
-          frames = step.by.frames;
-          move = step.move;
-          call = lib.MutexInit n.expression kind;
-          into = n.into;
-          expression = n.expression;
-          stands = step.by.stands ∙ ap (λ (o : Option Cell). Running step.by.control step.by.frames o) i;
-          offers = (choice.pair, step.by.offers);
-          here_is = refl;
-          is_call = n.is;
-          has = refl;
-          leads = n.leads;
-        };
-        expression = n.expression;
-        into = n.into;
-        is_init = n.is;
-      }
+            run = run;
+            good = step.good;
+            thread = t;
+            point = stands_at (state.thread t).origin step.by.control step.move;
+            leads = record {
+              control = step.by.control;
+              frames = step.by.frames;
+              move = step.move;
+              call = lib.MutexInit n.expression kind;
+              into = n.into;
+              expression = n.expression;
+              stands = step.by.stands ∙ ap (λ (o : Option Cell). Running step.by.control step.by.frames o) i;
+              offers = (choice.pair, step.by.offers);
+              here_is = refl;
+              is_call = n.is;
+              has = refl;
+              leads = n.leads;
+            };
+            expression = n.expression;
+            into = n.into;
+            is_init = n.is;
+          }
 
   begun_step : ((m : Cell) (mutex : Mutex) → state.mutex m ≡ Live mutex → Begun program m mutex.kind)
       → (m : Cell) (mutex : Mutex) → (after program state t step.move step.effect).mutex m ≡ Live mutex → Begun program m mutex.kind

@@ -108,11 +108,17 @@ module _ (program : Program) (well : IsWellFormed program) (names : Names) (prem
     new_depth = depth_stays program well c choice run step owner state.made (gt_differs t state.made (thread_made program well choice run step)) ∙ free_new
 
     fresh : (function : ℕ) → made_by step.effect.sync ≡ Some function → (mark : Mark) × ((mark ≡ marked 0 None) × Agrees program c state.made (choice ∷ run) mark)
-    fresh function e = (marked 0 None, (refl, subst (λ (s : State). AgreesIn program c s state.made (marked 0 None)) (sym step.leads) (record {
-      depth = sym (ap (λ (s : Stand). min (depth_of state.made (later.mutex c) + level_of c (inside_of s)) 8) (new_stand program well choice run step function e)
-          ∙ ap (λ n. min (n + 0) 8) new_depth);
-      outcome = none_in program later.memory (later.thread state.made).origin (later.thread state.made).stand;
-    })))
+    fresh function e = (
+      marked 0 None,
+      (
+        refl,
+        subst (λ (s : State). AgreesIn program c s state.made (marked 0 None)) (sym step.leads) (record {
+          depth = sym (ap (λ (s : Stand). min (depth_of state.made (later.mutex c) + level_of c (inside_of s)) 8) (new_stand program well choice run step function e)
+              ∙ ap (λ n. min (n + 0) 8) new_depth);
+          outcome = none_in program later.memory (later.thread state.made).origin (later.thread state.made).stand;
+        }),
+      ),
+    )
 
     others_agree : (thread : ℕ) → (thread == t) ≡ false → thread < state.made → (mark : Mark) → Agrees program c thread run mark → Agrees program c thread (choice ∷ run) mark
     others_agree thread o l mark a = subst (λ (s : State). AgreesIn program c s thread mark) (sym step.leads) (record {

@@ -56,8 +56,10 @@ module _ (program : Program) (well : IsWellFormed program) (names : Names) (prem
       sync_is program well choice run step ∙ ap (λ (x : Turn). sync_after step.by.frames x (sync_of state step.by.ask.request)) r.goes ∙ ap (λ (q : Request). sync_of state q) r.asks
 
   waits_with : (m : Cell) → asked_by program state choice step.move (Some m) ≡ Asks step.by.ask → same_cell m c ≡ true → HoldsBy state c t step.effect.sync
-  waits_with m a e = let y = retakes_it m a in inr (subst (λ (x : Sync). takes x c ≡ true) (sym y) e,
-      subst (λ (x : Cell). is_free_for t (state.mutex x) ≡ true) (cell_same m c e) (subst (Finds state t) y (finds program state choice step.move step.effect step.by)).1)
+  waits_with m a e = let y = retakes_it m a in inr (
+    subst (λ (x : Sync). takes x c ≡ true) (sym y) e,
+    subst (λ (x : Cell). is_free_for t (state.mutex x) ≡ true) (cell_same m c e) (subst (Finds state t) y (finds program state choice step.move step.effect step.by)).1,
+  )
 
   zero_depth : (d l : ℕ) → (d == 0) ≡ true → l ≡ 0 → min (d + l) 8 ≡ 0
   zero_depth d l e f = grind (arith, common_steps)

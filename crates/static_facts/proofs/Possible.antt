@@ -24,19 +24,21 @@ module _ (program : Program) (well : IsWellFormed program) (names : Names) (prem
       → (thread : ℕ) (control : Control) (frames : List Frame) (inside : Option Cell) (move : Move)
       → ((state_after program run).thread thread).stand ≡ Running control frames inside → Offers control move
       → MayHold program names location ((state_after program run).thread thread).origin (stands_at ((state_after program run).thread thread).origin control move)
-          (min (depth_with_wait c (state_after program run) thread) 8)
+      (min (depth_with_wait c (state_after program run) thread) 8)
   possible_with_wait c location at run good thread control frames inside move stands offers =
-      let f = followed program well names premises c location at.here at.of_sort run good thread control frames inside stands in
-      (f.state.outcome, subst (λ (d : ℕ). IsPossible program (depths program names location) ((state_after program run).thread thread).origin
-          (stands_at ((state_after program run).thread thread).origin control move) (marked d f.state.outcome)) f.fulfils.depth (record {
-        function = f.function;
-        leads = f.leads;
-        control = control;
-        move = move;
-        comes = f.comes;
-        offers = offers;
-        here = refl;
-      }))
+      let f = followed program well names premises c location at.here at.of_sort run good thread control frames inside stands in (
+        f.state.outcome,
+        subst (λ (d : ℕ). IsPossible program (depths program names location) ((state_after program run).thread thread).origin
+            (stands_at ((state_after program run).thread thread).origin control move) (marked d f.state.outcome)) f.fulfils.depth (record {
+              function = f.function;
+              leads = f.leads;
+              control = control;
+              move = move;
+              comes = f.comes;
+              offers = offers;
+              here = refl;
+            }),
+      )
 
   no_level : (c : Cell) (inside : Option Cell) → IsOutside c inside → level_of c inside ≡ 0
   no_level c None o = refl

@@ -63,8 +63,8 @@ pub data DepthStep (program : Program) (names : Names) (mutex : Location) (point
   moves : (depth behind : ℕ) (outcome : Option Remembered) (doing : Doing) → doing_of (act_at program point.spot.action) ≡ Some doing → IsNoTry doing
       → MayName names point 0 mutex → DepthMoves doing depth behind
       → DepthStep program names mutex point pair (marked depth outcome) (marked behind (kept_behind point (act_at program point.spot.action) outcome))
-  leaves : (depth : ℕ) (outcome : Option Remembered) (doing : Doing) → doing_of (act_at program point.spot.action) ≡ Some doing → IsNoTry doing
-      → (IsExact names point 0 mutex → ⊥)
+  leaves : (depth : ℕ) (outcome : Option Remembered) (doing : Doing) → doing_of (act_at program point.spot.action) ≡ Some doing
+      → IsNoTry doing → (IsExact names point 0 mutex → ⊥)
       → DepthStep program names mutex point pair (marked depth outcome) (marked depth (kept_behind point (act_at program point.spot.action) outcome))
   -- a try call with an exact argument moves it with outcome success, or leaves it with another outcome
   succeeds : (depth : ℕ) (outcome : Option Remembered) (into : Option Local) → doing_of (act_at program point.spot.action) ≡ Some (Does_try into)

@@ -25,7 +25,7 @@ EachDepthIsPossible program names = (c : Cell) (location : Location) → IsObjec
     → (thread : ℕ) (control : Control) (frames : List Frame) (inside : Option Cell) (move : Move)
     → ((state_after program run).thread thread).stand ≡ Running control frames inside → Offers control move → IsOutside c inside
     → MayHold program names location ((state_after program run).thread thread).origin (stands_at ((state_after program run).thread thread).origin control move)
-        (min (depth_of thread ((state_after program run).mutex c)) 8)
+    (min (depth_of thread ((state_after program run).mutex c)) 8)
 
 -- ---- between two ownerships by different threads stands a release by the first
 

@@ -1,0 +1,4 @@
+pub mod Counting
+pub mod LawLemmas
+pub mod PatternLemmas
+pub mod PlanLemmas
