@@ -1,0 +1,5 @@
+pub mod Causes
+pub mod Keepable
+pub mod Keeping
+pub mod Keys
+pub mod Tables
