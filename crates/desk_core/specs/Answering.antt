@@ -1,7 +1,7 @@
 -- How a call of the desk answers, beside what the machine answers.
 use Rattle.std.specs.Prelude.{◌≡◌, ◌≤◌, ◌⊎◌, ◌&&◌, ◌||◌, ℕ, Bool, true, false, List, Result, Ok, Err, Option, Some, None}
 use Rattle.std.specs.Option.{is_some, is_none}
-use Rattle.misra_base.specs.declared.deviation.Permit.{Permit}
+use Rattle.misra_base.specs.declared.permit.Permit.{Permit}
 use Rattle.desk_tables.specs.declared.keeper.KeepStop.{KeepStop}
 use Rattle.desk_tables.specs.declared.keeper.KeepStop.TheVariants as keep_stops
 use Rattle.desk_tables.specs.declared.reply.Reply.{Reply}

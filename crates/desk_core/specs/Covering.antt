@@ -3,7 +3,7 @@ use Rattle.std.specs.Prelude.{ℕ, min, if◌then◌else◌, List, map, fold, Op
 use Rattle.std.specs.Option.{option_map_or}
 use Rattle.misra_base.specs.declared.finding.Finding.{Finding}
 use Rattle.misra_base.specs.declared.deviation.Deviation.{Deviation}
-use Rattle.misra_base.specs.declared.compliance.Plan.{Plan}
+use Rattle.misra_base.specs.declared.category.Plan.{Plan}
 use Rattle.compliance_core.specs.Covers.{does_cover}
 use Rattle.desk_tables.specs.declared.found.Found.{Found}
 
@@ -21,5 +21,5 @@ least_cover plan deviations f = fold (better plan f) None deviations
 abbrev pub found_row : Plan → List Deviation → Finding → Found
 found_row plan deviations f = record { finding = f; deviation = least_cover plan deviations f }
 
-abbrev pub found_rows : Plan → List Deviation → List Finding → List Found
+unfoldable pub found_rows : Plan → List Deviation → List Finding → List Found
 found_rows plan deviations findings = map (found_row plan deviations) findings

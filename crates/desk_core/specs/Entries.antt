@@ -6,9 +6,9 @@ use Rattle.std.specs.Option.{option_and_then, option_map, option_map_or}
 use Rattle.misra_base.specs.Guidelines.{all_guidelines, same_guideline}
 use Rattle.misra_base.specs.declared.guideline.Guideline.{Guideline}
 use Rattle.misra_base.specs.declared.deviation.Deviation.{Deviation}
-use Rattle.misra_base.specs.declared.compliance.Category.{Category}
-use Rattle.misra_base.specs.declared.compliance.Category.TheVariants as categories
-use Rattle.misra_base.specs.declared.compliance.Plan.{Plan}
+use Rattle.misra_base.specs.declared.category.Category.{Category}
+use Rattle.misra_base.specs.declared.category.Category.TheVariants as categories
+use Rattle.misra_base.specs.declared.category.Plan.{Plan}
 use Rattle.compliance_core.specs.Categories.{plan_with}
 use Rattle.desk_core.specs.declared.stop.DeskStop.{DeskStop}
 use Rattle.desk_core.specs.Refusals.{approved_against, first_refusal, lowered}

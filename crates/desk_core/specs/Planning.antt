@@ -1,7 +1,7 @@
 -- The row of a plan's entries behind the refusals of the project.
 use Rattle.std.specs.Prelude.{ℕ, List, Some}
 use Rattle.misra_base.specs.declared.deviation.Deviation.{Deviation}
-use Rattle.misra_base.specs.declared.compliance.Plan.{Plan}
+use Rattle.misra_base.specs.declared.category.Plan.{Plan}
 use Rattle.desk_tables.specs.declared.change.Write.TheVariants as writes
 use Rattle.desk_tables.specs.declared.reply.Reply.TheVariants as replies
 use Rattle.desk_core.specs.Entries.{Entry, entries_refused, with_all_entries}

@@ -6,10 +6,10 @@ use Rattle.std.specs.Str.{bytes_eq}
 use Rattle.misra_base.specs.Guidelines.{same_guideline}
 use Rattle.misra_base.specs.declared.guideline.Guideline.{Guideline}
 use Rattle.misra_base.specs.declared.deviation.Deviation.{Deviation}
-use Rattle.misra_base.specs.declared.deviation.Permit.{Permit}
+use Rattle.misra_base.specs.declared.permit.Permit.{Permit}
 use Rattle.misra_base.specs.declared.deviation.Status.{Status}
 use Rattle.misra_base.specs.declared.deviation.Status.TheVariants as statuses
-use Rattle.misra_base.specs.declared.compliance.Category.{Category}
+use Rattle.misra_base.specs.declared.category.Category.{Category}
 use Rattle.compliance_core.specs.Categories.{is_allowed, is_mandatory, revised_category}
 use Rattle.compliance_core.specs.Covers.{is_approved}
 use Rattle.desk_tables.specs.declared.rows.Counts.{Counts}

@@ -7,10 +7,10 @@ use Rattle.misra_base.specs.declared.guideline.Guideline.{Guideline}
 use Rattle.misra_base.specs.declared.finding.Finding.{Finding}
 use Rattle.misra_base.specs.declared.report.Report.{Report}
 use Rattle.misra_base.specs.declared.deviation.Deviation.{Deviation}
-use Rattle.misra_base.specs.declared.deviation.Permit.{Permit}
+use Rattle.misra_base.specs.declared.permit.Permit.{Permit}
 use Rattle.misra_base.specs.declared.deviation.Status.{Status}
 use Rattle.misra_base.specs.declared.deviation.Status.TheVariants as statuses
-use Rattle.misra_base.specs.declared.compliance.Category.{Category}
+use Rattle.misra_base.specs.declared.category.Category.{Category}
 use Rattle.compliance_core.specs.Categories.{plan_with, misra_plan}
 use Rattle.compliance_core.specs.Levels.{summary_of, claim_of}
 use Rattle.desk_tables.specs.declared.change.Write.{Write}

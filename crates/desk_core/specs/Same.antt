@@ -5,7 +5,7 @@ use Rattle.std.specs.Str.{bytes_eq}
 use Rattle.misra_base.specs.Guidelines.{same_guideline}
 use Rattle.misra_base.specs.Names.{names_eq}
 use Rattle.misra_base.specs.declared.guideline.Guideline.{Guideline}
-use Rattle.misra_base.specs.declared.compliance.Category.{Category}
+use Rattle.misra_base.specs.declared.category.Category.{Category}
 use Rattle.desk_tables.specs.declared.command.Command.{Command}
 use Rattle.desk_tables.specs.declared.command.Command.TheVariants as commands
 use Rattle.desk_core.specs.Entries.{Entry, same_category, same_entries}

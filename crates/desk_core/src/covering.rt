@@ -20,6 +20,7 @@ pub fn found_rows(
     Ok(FoundList::from_vec(rows))
 }
 
+#[tactic(auto, unfolding(crate::specs::Covering::found_rows))]
 fn row_vec(
     alloc: Global,
     plan: &Plan,

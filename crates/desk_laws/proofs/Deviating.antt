@@ -11,8 +11,8 @@ use Rattle.misra_base.specs.declared.report.Report.{Report}
 use Rattle.misra_base.specs.declared.deviation.Deviation.{Deviation}
 use Rattle.misra_base.specs.declared.deviation.Status.{Status}
 use Rattle.misra_base.specs.declared.deviation.Status.TheVariants as statuses
-use Rattle.misra_base.specs.declared.compliance.Category.{Category}
-use Rattle.misra_base.specs.declared.compliance.Plan.{Plan}
+use Rattle.misra_base.specs.declared.category.Category.{Category}
+use Rattle.misra_base.specs.declared.category.Plan.{Plan}
 use Rattle.compliance_core.specs.Categories.{is_mandatory, misra_plan, plan_with, revised_category}
 use Rattle.compliance_core.specs.Covers.{is_approved}
 use Rattle.desk_tables.specs.declared.change.Write.{Write}
@@ -23,20 +23,21 @@ use Rattle.desk_tables.specs.declared.reply.Reply.{Reply}
 use Rattle.desk_tables.specs.declared.rows.ProjectRow.{ProjectRow}
 use Rattle.desk_tables.specs.declared.rows.DeviationRow.{DeviationRow}
 use Rattle.desk_tables.specs.declared.rows.KeptRow.{KeptRow}
-use Rattle.desk_tables.specs.Tables.{Tables, after_keeping, after_write, deviations_of, is_deviation, is_deviation_of, is_named, no_tables, project_named, put, put_deviation, put_plan, put_project, put_revision}
+use Rattle.desk_tables.specs.Tables.{Tables, after_keeping, after_write, deviations_of, is_deviation, is_deviation_of, is_named, no_tables, project_named, put, put_deviation, put_plan, put_project, put_revision, rows_of}
 use Rattle.desk_core.specs.declared.caller.Caller.{Caller}
 use Rattle.desk_core.specs.declared.stop.DeskStop.{DeskStop}
 use Rattle.desk_core.specs.declared.stop.DeskStop.TheVariants as stops
 use Rattle.desk_core.specs.Callers.{name_of}
-use Rattle.desk_core.specs.Entries.{Entry, category_in, entry_refused, with_entry}
+use Rattle.desk_core.specs.Entries.{Entry, category_in, entries_refused, entry_refused, with_all_entries, with_entry}
 use Rattle.desk_core.specs.Refusals.{approved_against, approved_for, first_refusal, lowered, no_project, not_member, refuse_if}
 use Rattle.desk_core.specs.Rows.{approved_by, project_of, row_for, with_status}
 use Rattle.desk_core.specs.Step.{by_row, effected, row_to_keep, seen_answer, unless_kept}
 use Rattle.desk_core.specs.View.{deviation_with, view_of}
 use Rattle.desk_laws.specs.Mandatory.{HasNoMandatoryDeviated, NoMandatoryIsDeviated, NoRunDeviatesMandatory, deviates_from_mandatory, may_stand}
-use Rattle.desk_laws.specs.Runs.{Request, desk_run, step_of}
+use Rattle.desk_laws.specs.Runs.{Request, step_of, tables_after}
 use Rattle.desk_laws.proofs.Keeping.{AfterEffect, later_refusal, none_at, step_keeps}
 use Rattle.desk_laws.proofs.Putting.{all_more, all_put, all_two, and_both, apart, found_put, itself, other_put, passes, same_name}
+use Rattle.desk_laws.proofs.Sorting.{count_sorted}
 use Rattle.desk_laws.proofs.Replanning.{none_passes, revised_with}
 
 -- ---- a project's row is put
@@ -171,7 +172,9 @@ room t project plan g c free h = all_two
     (λ dr before none. room_by plan g c dr.deviation (is_deviation_of project dr) before none)
     t.deviations h
     (none_by (is_mandatory c) (is_deviation_of project) (λ d. is_approved d.status && same_guideline d.guideline g) (λ r. r.deviation) t.deviations
-      (stops.HasApprovedDeviations (approved_for g (deviations_of project t))) free)
+      (stops.HasApprovedDeviations (approved_for g (rows_of project t)))
+      (subst (λ n. refuse_if (is_mandatory c && not (n == 0)) (stops.HasApprovedDeviations n) ≡ None)
+        (count_sorted (λ d. is_approved d.status && same_guideline d.guideline g) (rows_of project t)) free))
 
 -- the same of one guideline's entry, and of all entries
 entry_room : (t : Tables) (project : List ℕ) (plan : Plan) (g : Guideline) (found : Option Category)
@@ -246,8 +249,9 @@ recategorise_ok t project g c (Some row) f free h =
     replanned t project (Some row) (plan_with g c row.plan) f (room t project row.plan g c free (first_room t project row f h)) h
 
 plan_ok : (t : Tables) (project : List ℕ) (entries : List Entry) (found : Option ProjectRow) → project_named project t ≡ found
-    → first_refusal (map (entry_refused entries (deviations_of project t)) all_guidelines) ≡ None → HasNoMandatoryDeviated t
-    → HasNoMandatoryDeviated (put_plan found project (fold (with_entry entries) (option_map_or (λ row. row.plan) found misra_plan) all_guidelines) t)
+    → first_refusal (entries_refused entries (deviations_of project t)) ≡ None → HasNoMandatoryDeviated t
+    → HasNoMandatoryDeviated (put_plan found project (with_all_entries entries (option_map_or (λ row. row.plan) found misra_plan)) t)
+unfolding entries_refused with_all_entries
 plan_ok t project entries None f free h = h
 plan_ok t project entries (Some row) f free h =
     replanned t project (Some row) (fold (with_entry entries) row.plan all_guidelines) f
@@ -288,7 +292,7 @@ command_ok t caller (commands.Withdraw project id) report e h =
 command_ok t caller (commands.AddPermit name guideline reason) report e h = h
 command_ok t caller (commands.ApplyPlan project entries) report e h =
     let v = view_of (name_of caller) project t in
-    let rest = map (entry_refused entries v.deviations) all_guidelines in
+    let rest = entries_refused entries v.deviations in
     plan_ok t project entries (project_named project t) refl
       (later_refusal (not_member caller v) rest (later_refusal (no_project v) (not_member caller v ∷ rest) e)) h
 command_ok t caller (commands.ReadSummary project) report e h = tt
@@ -305,7 +309,7 @@ pub no_mandatory_is_deviated : NoMandatoryIsDeviated
 no_mandatory_is_deviated t caller request command report h =
     step_keeps HasNoMandatoryDeviated t caller request command report keeping (λ none. command_ok t caller command report none h) h
 
-run_ok : (t : Tables) (requests : List Request) → HasNoMandatoryDeviated t → HasNoMandatoryDeviated (desk_run t requests)
+run_ok : (t : Tables) (requests : List Request) → HasNoMandatoryDeviated t → HasNoMandatoryDeviated (tables_after t requests)
 run_ok t [] h = h
 run_ok t (r ∷ requests) h = run_ok (step_of t r) requests (no_mandatory_is_deviated t r.caller r.id r.command r.report h)
 

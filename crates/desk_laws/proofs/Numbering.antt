@@ -11,7 +11,7 @@ use Rattle.misra_base.specs.declared.report.Report.{Report}
 use Rattle.misra_base.specs.declared.finding.Finding.{Finding}
 use Rattle.misra_base.specs.declared.deviation.Deviation.{Deviation}
 use Rattle.misra_base.specs.declared.deviation.Status.TheVariants as statuses
-use Rattle.misra_base.specs.declared.compliance.Plan.{Plan}
+use Rattle.misra_base.specs.declared.category.Plan.{Plan}
 use Rattle.desk_tables.specs.declared.change.Write.{Write}
 use Rattle.desk_tables.specs.declared.change.Write.TheVariants as writes
 use Rattle.desk_tables.specs.declared.command.Command.{Command}
@@ -19,15 +19,16 @@ use Rattle.desk_tables.specs.declared.command.Command.TheVariants as commands
 use Rattle.desk_tables.specs.declared.rows.ProjectRow.{ProjectRow}
 use Rattle.desk_tables.specs.declared.rows.DeviationRow.{DeviationRow}
 use Rattle.desk_tables.specs.declared.rows.KeptRow.{KeptRow}
-use Rattle.desk_tables.specs.Tables.{Tables, after_keeping, deviations_of, is_deviation, is_deviation_of, no_tables, project_named, put, put_deviation, put_plan, put_revision}
+use Rattle.desk_tables.specs.Tables.{Tables, after_keeping, deviations_of, is_deviation, is_deviation_of, no_tables, project_named, put, put_deviation, put_plan, put_revision, rows_of}
 use Rattle.desk_core.specs.declared.caller.Caller.{Caller}
 use Rattle.desk_core.specs.Callers.{name_of}
 use Rattle.desk_core.specs.Refusals.{first_refusal}
 use Rattle.desk_core.specs.Rows.{approved_by, project_of, row_for, with_status}
 use Rattle.desk_core.specs.View.{deviation_with, view_of}
 use Rattle.desk_laws.specs.Numbers.{AreNumbered, DeviationsAreNumbered}
-use Rattle.desk_laws.specs.Runs.{Request, desk_run, step_of}
+use Rattle.desk_laws.specs.Runs.{Request, step_of, tables_after}
 use Rattle.desk_laws.proofs.Keeping.{AfterEffect, step_keeps}
+use Rattle.desk_laws.proofs.Sorting.{any_sorted, length_sorted}
 use Rattle.desk_laws.proofs.Putting.{and_left, and_right, or_right, same_name}
 
 abbrev ids : List ℕ → List DeviationRow → List ℕ
@@ -124,29 +125,29 @@ replaced t project d there h q =
     let any : list_any (is_deviation project d.id) t.deviations ≡ true = any_id project d.id t.deviations ∙ there in
     let same : ids q (put (is_deviation project d.id) row t.deviations) ≡ ids q t.deviations =
       ids_put q row t.deviations ∙ ap (λ b. put_ids q row b t.deviations) any in
-    numbered_by (deviations_of q (put_deviation project d t)) (length (deviations_of q t)) (same ∙ h q)
+    numbered_by (rows_of q (put_deviation project d t)) (length (rows_of q t)) (same ∙ h q)
 
-added_by : (t : Tables) (project q : List ℕ) (b : Bool) (n : ℕ) → bytes_eq project q ≡ b → n ≡ length (deviations_of project t)
+added_by : (t : Tables) (project q : List ℕ) (b : Bool) (n : ℕ) → bytes_eq project q ≡ b → n ≡ length (rows_of project t)
     → AreNumbered t
     → (m : ℕ) × (ids q t.deviations ++ cond b ((n + 1) ∷ []) [] ≡ range_with_len 1 m)
 added_by t project q true n e size h =
-    let here = subst (λ p. n ≡ length (deviations_of p t)) (same_name project q e) size in
+    let here = subst (λ p. n ≡ length (rows_of p t)) (same_name project q e) size in
     let last : n + 1 ≡ 1 + n = omega arith in
     (suc n, ap (λ l. l ++ (n + 1) ∷ []) (h q ∙ ap (range_with_len 1) (sym here)) ∙ ap (λ k. range_with_len 1 n ++ k ∷ []) last ∙ range_more 1 n)
-added_by t project q false n e size h = (length (deviations_of q t), append-nil (ids q t.deviations) ∙ h q)
+added_by t project q false n e size h = (length (rows_of q t), append-nil (ids q t.deviations) ∙ h q)
 
 -- a new one, whose id is one above their number
-added : (t : Tables) (project : List ℕ) (d : Deviation) → d.id ≡ length (deviations_of project t) + 1 → AreNumbered t → AreNumbered (put_deviation project d t)
+added : (t : Tables) (project : List ℕ) (d : Deviation) → d.id ≡ length (rows_of project t) + 1 → AreNumbered t → AreNumbered (put_deviation project d t)
 added t project d e h q =
     let row : DeviationRow = record { project = project; deviation = d } in
-    let n = length (deviations_of project t) in
+    let n = length (rows_of project t) in
     let fresh : list_any (λ i. i == d.id) (ids project t.deviations) ≡ false =
       ap (list_any (λ i. i == d.id)) (h project) ∙ beyond 1 n d.id (omega (arith, e)) in
     let none : list_any (is_deviation project d.id) t.deviations ≡ false = any_id project d.id t.deviations ∙ fresh in
     let after : ids q (put (is_deviation project d.id) row t.deviations) ≡ ids q t.deviations ++ cond (bytes_eq project q) (d.id ∷ []) [] =
       ids_put q row t.deviations ∙ ap (λ b. put_ids q row b t.deviations) none in
     let numbers = added_by t project q (bytes_eq project q) n refl refl h in
-    numbered_by (deviations_of q (put_deviation project d t)) numbers.0
+    numbered_by (rows_of q (put_deviation project d t)) numbers.0
       (after ∙ ap (λ k. ids q t.deviations ++ cond (bytes_eq project q) (k ∷ []) []) e ∙ numbers.1)
 
 -- ---- each command
@@ -170,7 +171,7 @@ set_ok : (t : Tables) (project : List ℕ) (id : ℕ) (change : Deviation → De
     → AfterEffect AreNumbered (option_map (λ d. writes.SetDeviation project (change d)) found) t
 set_ok t project id change keeps None f h = tt
 set_ok t project id change keeps (Some d) f h =
-    let there = found_id (λ d. d.id == id) (deviations_of project t) d f in
+    let there = sym (any_sorted (λ i. i == d.id) (rows_of project t)) ∙ found_id (λ d. d.id == id) (deviations_of project t) d f in
     replaced t project (change d) (subst (λ n. list_any (λ i. i == n) (ids project t.deviations) ≡ true) (sym (keeps d)) there) h
 
 revision_ok : (t : Tables) (found : Option ProjectRow) (project : List ℕ) (number : ℕ) (findings : List Finding) → AreNumbered t
@@ -186,7 +187,8 @@ command_ok : (t : Tables) (caller : Caller) (command : Command) (report : Option
     → AfterEffect AreNumbered (row_for (view_of (name_of caller) (project_of command) t) caller command report).effect t
 command_ok t caller (commands.MakeProject name members) report h = h
 command_ok t caller (commands.Submit project length) report h = revision_ok t (project_named project t) project _ _ h
-command_ok t caller (commands.Raise project guideline function object reason permit) report h = added t project _ refl h
+command_ok t caller (commands.Raise project guideline function object reason permit) report h =
+    added t project _ (ap (λ n. n + 1) (length_sorted (rows_of project t))) h
 command_ok t caller (commands.Approve project id) report h =
     set_ok t project id (approved_by caller) (λ d. refl) (deviation_with id (view_of (name_of caller) project t)) refl h
 command_ok t caller (commands.Reject project id) report h =
@@ -206,7 +208,7 @@ leaves : (kept : Option KeptRow) (t : Tables) → AreNumbered t → AreNumbered 
 leaves None t h = h
 leaves (Some row) t h = h
 
-run_ok : (t : Tables) (requests : List Request) → AreNumbered t → AreNumbered (desk_run t requests)
+run_ok : (t : Tables) (requests : List Request) → AreNumbered t → AreNumbered (tables_after t requests)
 run_ok t [] h = h
 run_ok t (r ∷ requests) h =
     run_ok (step_of t r) requests (step_keeps AreNumbered t r.caller r.id r.command r.report leaves (λ none. command_ok t r.caller r.command r.report h) h)

@@ -3,9 +3,9 @@ use Rattle.std.proofs.Common.{◌≡◌, ◌∙◌, ℕ, List, Result, Ok, Err, 
 use Rattle.std.specs.List.{sum_by}
 use Rattle.misra_base.specs.declared.finding.Finding.{Finding}
 use Rattle.misra_base.specs.declared.deviation.Deviation.{Deviation}
-use Rattle.misra_base.specs.declared.compliance.Plan.{Plan}
+use Rattle.misra_base.specs.declared.category.Plan.{Plan}
 use Rattle.misra_base.specs.declared.report.Report.{Report}
-use Rattle.misra_base.specs.declared.compliance.SummaryRow.{SummaryRow}
+use Rattle.misra_base.specs.declared.summary.SummaryRow.{SummaryRow}
 use Rattle.compliance_core.specs.Laws.{findings_in}
 use Rattle.compliance_core.specs.Levels.{summary_of}
 use Rattle.compliance_core.proofs.Counting.{summary_has_all}
@@ -109,6 +109,7 @@ rows_read None t u number revision rows all e = cc
 rows_read (Some stop) t u number revision rows all e = cc
 
 findings_kept : (plan : Plan) (deviations : List Deviation) (findings : List Finding) → map (λ row. row.finding) (found_rows plan deviations findings) ≡ findings
+unfolding found_rows
 findings_kept plan deviations [] = refl
 findings_kept plan deviations (f ∷ findings) = ap (λ l. f ∷ l) (findings_kept plan deviations findings)
 

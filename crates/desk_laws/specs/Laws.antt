@@ -2,7 +2,7 @@
 use Rattle.std.specs.Prelude.{◌≡◌, ℕ, List, Ok, Err, Option, None, length, map}
 use Rattle.std.specs.List.{sum_by}
 use Rattle.misra_base.specs.declared.report.Report.{Report}
-use Rattle.misra_base.specs.declared.compliance.SummaryRow.{SummaryRow}
+use Rattle.misra_base.specs.declared.summary.SummaryRow.{SummaryRow}
 use Rattle.compliance_core.specs.Laws.{findings_in}
 use Rattle.desk_tables.specs.declared.command.Command.{Command}
 use Rattle.desk_tables.specs.declared.command.Command.TheVariants as commands

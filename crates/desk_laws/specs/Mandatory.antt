@@ -4,7 +4,7 @@ use Rattle.std.specs.List.{list_all}
 use Rattle.misra_base.specs.declared.report.Report.{Report}
 use Rattle.misra_base.specs.declared.finding.Finding.{Finding}
 use Rattle.misra_base.specs.declared.deviation.Deviation.{Deviation}
-use Rattle.misra_base.specs.declared.compliance.Plan.{Plan}
+use Rattle.misra_base.specs.declared.category.Plan.{Plan}
 use Rattle.compliance_core.specs.Categories.{is_mandatory, revised_category}
 use Rattle.compliance_core.specs.Covers.{is_approved, is_deviated}
 use Rattle.desk_tables.specs.declared.command.Command.{Command}
@@ -12,7 +12,7 @@ use Rattle.desk_tables.specs.declared.rows.ProjectRow.{ProjectRow}
 use Rattle.desk_tables.specs.Tables.{Tables, no_tables, project_named}
 use Rattle.desk_core.specs.declared.caller.Caller.{Caller}
 use Rattle.desk_core.specs.Step.{desk_step}
-use Rattle.desk_laws.specs.Runs.{Request, desk_run}
+use Rattle.desk_laws.specs.Runs.{Request, tables_after}
 
 -- an approved deviation from a guideline that the plan makes Mandatory
 abbrev pub deviates_from_mandatory : Plan → Deviation → Bool
@@ -34,7 +34,7 @@ NoMandatoryIsDeviated = (t : Tables) (caller : Caller) (request : Option (List �
 
 -- it holds after each list of requests
 abbrev pub NoRunDeviatesMandatory : Type 0
-NoRunDeviatesMandatory = (requests : List Request) → HasNoMandatoryDeviated (desk_run no_tables requests)
+NoRunDeviatesMandatory = (requests : List Request) → HasNoMandatoryDeviated (tables_after no_tables requests)
 
 -- no deviation covers a finding of a guideline that the plan makes Mandatory
 abbrev pub MandatoryViolationsStand : Type 0

@@ -8,7 +8,9 @@ use Rattle.desk_tables.specs.declared.rows.KeptRow.{KeptRow}
 use Rattle.desk_tables.specs.Tables.{Tables, kept_by}
 use Rattle.desk_core.specs.declared.caller.Caller.TheVariants.{Member}
 use Rattle.desk_core.specs.Forms.{bad_text}
-use Rattle.desk_core.specs.Step.{desk_step, same_command}
+use Rattle.desk_core.specs.Same.{same_command}
+use Rattle.desk_core.specs.Step.{desk_step}
+use Rattle.desk_laws.specs.Runs.{Request, tables_after}
 
 -- where the request's forms are right, what was kept for it answers it
 abbrev pub RepeatsAreAnswered : Type 0
@@ -31,3 +33,16 @@ AcceptedRequestsAreRepeated = (t : Tables) (name id : List ℕ) (command : Comma
     → (desk_step t (Member name) (Some id) command report).0 ≡ Ok reply
     → desk_step (desk_step t (Member name) (Some id) command report).1 (Member name) (Some id) command again
     ≡ (Ok reply, (desk_step t (Member name) (Some id) command report).1)
+
+-- what is kept of a request is kept for good, whatever requests follow
+abbrev pub KeptForGood : Type 0
+KeptForGood = (t : Tables) (requests : List Request) (name id : List ℕ) (row : KeptRow)
+    → kept_by name id t ≡ Some row → kept_by name id (tables_after t requests) ≡ Some row
+
+-- so a changing request that was accepted gets the same reply, and changes nothing, whatever requests came in between
+abbrev pub RunsRepeatReplies : Type 0
+RunsRepeatReplies = (t : Tables) (name id : List ℕ) (command : Command) (report again : Option Report) (reply : Reply) (between : List Request)
+    → is_changing command ≡ true
+    → (desk_step t (Member name) (Some id) command report).0 ≡ Ok reply
+    → (let u = tables_after (desk_step t (Member name) (Some id) command report).1 between in
+    desk_step u (Member name) (Some id) command again ≡ (Ok reply, u))

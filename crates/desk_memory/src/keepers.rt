@@ -1,4 +1,4 @@
-ghost use Rattle.std.specs.Prelude.{◌≡◌, Some, IsErrOf, true};
+ghost use Rattle.std.specs.Prelude.{◌≡◌, Some, IfOk, IsErrOf, true, []};
 ghost use Rattle.desk_tables.specs.Causes.{HasCause};
 ghost use Rattle.desk_tables.specs.Keeping.{Changed, Reads, Told};
 ghost use Rattle.desk_tables.specs.Tables.{counts_of, deviations_of, findings_of, kept_by, no_tables, permit_named, project_named};
@@ -6,14 +6,16 @@ ghost use Rattle.desk_tables.specs.Keepable.{keeps_rightly};
 ghost use Rattle.desk_tables.specs.Keys.{has_keys};
 ghost use Rattle.desk_tables.specs.declared.keeper.KeepStop.TheVariants as keep_stops;
 ghost use Rattle.desk_memory.specs.Calls.{IsNumbered};
+ghost use Rattle.desk_memory.specs.First.{tables_from};
 ghost use Rattle.desk_memory.specs.Stores.{tables_of};
 ghost use Rattle.desk_memory.specs.Telling.{told_keyed};
 
 use crate::calls::Calls;
+use crate::first::{FirstTables, deviation_rows, found_rows};
 use crate::store::Store;
 use desk_tables::{Change, Counts, KeepStop, Keeper, KeptRow, ProjectRow};
 use misra_base::{DeviationList, FindingList, Name, Permit};
-use std::alloc::Global;
+use std::alloc::{AllocError, Global};
 
 /// A keeper in memory that never fails. It tells its tables, and its count of faults is 0.
 #[derive(Debug, Drop)]
@@ -95,6 +97,34 @@ impl MemoryKeeper {
             calls: Calls::new(failing),
         }
     }
+
+    /// A keeper with these tables, each deviation in the form of a text. None of its calls is to fail.
+    /// In each list the rows have different keys, and no project stands twice in the findings.
+    pub fn from_first(alloc: Global, first: FirstTables) -> Result<MemoryKeeper, AllocError>
+        requires { has_keys (tables_from first) ≡ true }
+        ensures tables { IfOk result (λ k. tables_of k.store ≡ tables_from first) }
+        ensures made { IfOk result (λ k. k.calls.made ≡ 0) }
+        ensures failing { IfOk result (λ k. k.calls.failing.items ≡ []) }
+        ensures faults { IfOk result (λ k. k.calls.faults ≡ 0) }
+    {
+        let FirstTables {
+            projects,
+            findings,
+            deviations,
+            permits,
+            kept,
+        } = first;
+        Ok(MemoryKeeper {
+            store: Store {
+                projects,
+                findings: found_rows(alloc, findings)?,
+                deviations: deviation_rows(alloc, deviations)?,
+                permits,
+                kept,
+            },
+            calls: Calls::new(Vec::new(alloc)),
+        })
+    }
 }
 
 impl Keeper for MemoryKeeper {
@@ -174,6 +204,7 @@ impl Keeper for MemoryKeeper {
     }
 
     fn change(&mut self, _: Global, change: &Change) -> Result<(), KeepStop>
+        requires kept { keeps_rightly change.now.kept ≡ true }
         ensures numbered { IsNumbered self.old.calls self.new.calls result }
         ensures told { Told (Some (tables_of self.old.store)) (λ t. Changed change.now t (Some (tables_of self.new.store)) result) }
         ensures cause { HasCause keep_stops.Failed self.old.calls.faults self.new.calls.faults result }

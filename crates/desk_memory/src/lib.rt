@@ -3,10 +3,12 @@
 
 mod calls;
 mod counting;
+mod first;
 mod keepers;
 mod ordering;
 mod places;
 mod puts;
 mod store;
 
+pub use first::FirstTables;
 pub use keepers::{MemoryKeeper, SureKeeper};

@@ -5,14 +5,14 @@ use Rattle.std.specs.List.{find, list_any}
 use Rattle.std.specs.Str.{bytes_eq}
 use Rattle.std.proofs.lemmas.Bool.Decides.{Decides-eqb}
 use Rattle.std.proofs.lemmas.Slice.Eq.{bytes_eq-Decides}
-use Rattle.misra_base.specs.declared.deviation.Permit.{Permit}
+use Rattle.misra_base.specs.declared.permit.Permit.{Permit}
 use Rattle.desk_tables.specs.declared.rows.ProjectRow.{ProjectRow}
 use Rattle.desk_tables.specs.declared.rows.FoundRow.{FoundRow}
 use Rattle.desk_tables.specs.declared.rows.DeviationRow.{DeviationRow}
 use Rattle.desk_tables.specs.declared.rows.KeptRow.{KeptRow}
 use Rattle.misra_base.specs.declared.deviation.Deviation.{Deviation}
 use Rattle.misra_base.specs.declared.finding.Finding.{Finding}
-use Rattle.misra_base.specs.declared.compliance.Plan.{Plan}
+use Rattle.misra_base.specs.declared.category.Plan.{Plan}
 use Rattle.desk_tables.specs.declared.change.Change.{Change}
 use Rattle.desk_tables.specs.declared.change.Write.{Write}
 use Rattle.desk_tables.specs.declared.change.Write.TheVariants as writes

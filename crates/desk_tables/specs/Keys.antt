@@ -2,7 +2,7 @@
 use Rattle.std.specs.Prelude.{◌≡◌, ℕ, Bool, true, not, ◌&&◌, ◌==◌, List, [], ◌∷◌}
 use Rattle.std.specs.List.{list_any}
 use Rattle.std.specs.Str.{bytes_eq}
-use Rattle.misra_base.specs.declared.deviation.Permit.{Permit}
+use Rattle.misra_base.specs.declared.permit.Permit.{Permit}
 use Rattle.desk_tables.specs.declared.rows.ProjectRow.{ProjectRow}
 use Rattle.desk_tables.specs.declared.rows.FoundRow.{FoundRow}
 use Rattle.desk_tables.specs.declared.rows.DeviationRow.{DeviationRow}

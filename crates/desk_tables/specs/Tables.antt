@@ -5,8 +5,8 @@ use Rattle.std.specs.Option.{option_map_or}
 use Rattle.std.specs.Str.{bytes_eq}
 use Rattle.misra_base.specs.declared.finding.Finding.{Finding}
 use Rattle.misra_base.specs.declared.deviation.Deviation.{Deviation}
-use Rattle.misra_base.specs.declared.deviation.Permit.{Permit}
-use Rattle.misra_base.specs.declared.compliance.Plan.{Plan}
+use Rattle.misra_base.specs.declared.permit.Permit.{Permit}
+use Rattle.misra_base.specs.declared.category.Plan.{Plan}
 use Rattle.desk_tables.specs.declared.rows.ProjectRow.{ProjectRow}
 use Rattle.desk_tables.specs.declared.rows.FoundRow.{FoundRow}
 use Rattle.desk_tables.specs.declared.rows.DeviationRow.{DeviationRow}
