@@ -1,12 +1,9 @@
 -- A search for the value with a word.
-use Rattle.std.proofs.Common.{◌≡◌, ◌≢◌, ℕ, zero, suc, Bool, true, false, cond, List, [], ◌∷◌, ◌+◌, ◌<◌, length, get_or, drop, Option, Some, None, refl, sym, ◌∙◌, ap, subst, arith}
-use Rattle.std.specs.List.{Contains, find}
-use Rattle.std.specs.Option.{ok_or}
+use Rattle.std.proofs.Common.{◌≡◌, ℕ, false, List, ◌∷◌, ◌+◌, ◌<◌, length, get_or, drop, Option, Some, sym, ◌∙◌, ap}
+use Rattle.std.specs.List.{find}
 use Rattle.std.specs.Str.{bytes_eq}
-use Rattle.std.proofs.lemmas.Slice.Eq.{bytes_eq-Decides}
 use Rattle.std.proofs.lemmas.Bool.{cond-false}
 use Rattle.std.proofs.lemmas.List.{drop_more}
-use Rattle.misra_base.specs.Words.{ReadsWord}
 
 -- a value whose word is another text is passed over
 pub next_found : {A : Type 0} (word : A → List ℕ) (text seen : List ℕ) (xs : List A) (i : ℕ) (d : A) (found : Option A) → i < length xs → seen ≡ word (get_or xs i d) → bytes_eq seen text ≡ false → find (λ v. bytes_eq (word v) text) (drop i xs) ≡ found → find (λ v. bytes_eq (word v) text) (drop (i + 1) xs) ≡ found

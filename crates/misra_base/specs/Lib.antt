@@ -1,3 +1,4 @@
+pub mod Bits
 pub mod Deviations
 pub mod Guidelines
 pub mod Keys
@@ -7,5 +8,6 @@ pub mod Names
 pub mod Orders
 pub mod Places
 pub mod Reports
+pub mod Rows
 pub mod Tables
 pub mod Words

@@ -2,6 +2,7 @@
 //! categories, deviations, permits and summary rows of compliance.
 #![tactic(auto)]
 
+mod bit_row;
 mod category;
 mod deviation;
 mod finding;
@@ -17,6 +18,7 @@ mod report;
 mod summary;
 mod word;
 
+pub use bit_row::BitRow;
 pub use category::{Category, EntryList, Plan};
 pub use deviation::{Deviation, DeviationList, FirstDeviation, Form, Status};
 pub use finding::{Finding, FindingList};
