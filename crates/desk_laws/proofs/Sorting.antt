@@ -2,6 +2,7 @@
 use Rattle.std.proofs.Common.{◌≡◌, ◌∙◌, ◌+◌, ℕ, Bool, true, false, ◌||◌, cond, List, [], ◌∷◌, refl, ap, sym, length, map, suc, arith}
 use Rattle.std.specs.Prelude.{nat_le, count_by}
 use Rattle.std.specs.List.{list_any}
+use Rattle.std.proofs.lemmas.List.Sums.{sum_by-cons}
 use Rattle.misra_base.specs.declared.deviation.Deviation.{Deviation}
 use Rattle.desk_tables.specs.Tables.{by_id, insert_by_id}
 
@@ -25,19 +26,25 @@ length_sorted (d ∷ ds) = length_inserted d (by_id ds) ∙ ap suc (length_sorte
 swap : (a b c : ℕ) → b + (a + c) ≡ a + (b + c)
 swap a b c = omega arith
 
+-- a count of one more
+more : (p : Deviation → Bool) (d : Deviation) (ds : List Deviation) → count_by p (d ∷ ds) ≡ cond (p d) 1 0 + count_by p ds
+more p d ds = sum_by-cons (λ x. cond (p x) 1 0) d ds
+
 count_step : (p : Deviation → Bool) (b : Bool) (d e : Deviation) (es rest : List Deviation)
     → count_by p rest ≡ cond (p d) 1 0 + count_by p es
-    → count_by p (cond b (d ∷ e ∷ es) (e ∷ rest)) ≡ cond (p d) 1 0 + (cond (p e) 1 0 + count_by p es)
-count_step p true d e es rest h = refl
-count_step p false d e es rest h = ap (λ n. cond (p e) 1 0 + n) h ∙ swap (cond (p d) 1 0) (cond (p e) 1 0) (count_by p es)
+    → count_by p (cond b (d ∷ e ∷ es) (e ∷ rest)) ≡ cond (p d) 1 0 + count_by p (e ∷ es)
+count_step p true d e es rest h = more p d (e ∷ es)
+count_step p false d e es rest h =
+    more p e rest ∙ ap (λ n. cond (p e) 1 0 + n) h ∙ swap (cond (p d) 1 0) (cond (p e) 1 0) (count_by p es)
+    ∙ ap (λ n. cond (p d) 1 0 + n) (sym (more p e es))
 
 count_inserted : (p : Deviation → Bool) (d : Deviation) (ds : List Deviation) → count_by p (insert_by_id d ds) ≡ cond (p d) 1 0 + count_by p ds
-count_inserted p d [] = refl
+count_inserted p d [] = more p d []
 count_inserted p d (e ∷ es) = count_step p (nat_le d.id e.id) d e es (insert_by_id d es) (count_inserted p d es)
 
 pub count_sorted : (p : Deviation → Bool) (ds : List Deviation) → count_by p (by_id ds) ≡ count_by p ds
 count_sorted p [] = refl
-count_sorted p (d ∷ ds) = count_inserted p d (by_id ds) ∙ ap (λ n. cond (p d) 1 0 + n) (count_sorted p ds)
+count_sorted p (d ∷ ds) = count_inserted p d (by_id ds) ∙ ap (λ n. cond (p d) 1 0 + n) (count_sorted p ds) ∙ sym (more p d ds)
 
 -- ---- whether some id passes a test
 

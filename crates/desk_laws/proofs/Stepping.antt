@@ -14,7 +14,10 @@ use Rattle.desk_tables.specs.declared.command.Command.TheVariants as commands
 use Rattle.desk_tables.specs.declared.reply.Reply.{Reply}
 use Rattle.desk_tables.specs.declared.reply.Reply.TheVariants as replies
 use Rattle.desk_tables.specs.declared.found.Found.{Found}
+use Rattle.desk_tables.specs.declared.change.Write.{Write}
+use Rattle.desk_tables.specs.Keys.{IsKeyed}
 use Rattle.desk_tables.specs.Tables.{Tables, no_tables}
+use Rattle.desk_tables.proofs.Keyed.{keyed_change}
 use Rattle.desk_core.specs.declared.caller.Caller.{Caller}
 use Rattle.desk_core.specs.declared.stop.DeskStop.{DeskStop}
 use Rattle.desk_core.specs.Callers.{name_of}
@@ -22,9 +25,9 @@ use Rattle.desk_core.specs.Covering.{found_rows}
 use Rattle.desk_core.specs.Forms.{bad_text}
 use Rattle.desk_core.specs.Refusals.{first_refusal}
 use Rattle.desk_core.specs.Rows.{row_for, project_of}
-use Rattle.desk_core.specs.Step.{by_row, desk_step, seen_answer, unless_bad, unless_kept}
+use Rattle.desk_core.specs.Step.{by_row, desk_step, effected, row_to_keep, seen_answer, unless_bad, unless_kept}
 use Rattle.desk_core.specs.View.{View, plan_of, revision_of, view_of}
-use Rattle.desk_laws.specs.Laws.{Agree, FindingsAreRead, NoFindingIsLost, ProjectsAreApart, RefusalsChangeNothing}
+use Rattle.desk_laws.specs.Laws.{Agree, FindingsAreRead, NoFindingIsLost, ProjectsAreApart, RefusalsChangeNothing, StepsKeepKeys}
 
 -- ---- refusals change nothing
 
@@ -120,3 +123,29 @@ findings_are_read t caller project number rows e =
     let answered = read_step (bad_text caller None (commands.ReadFindings project)) t (by_row (first_refusal row.refusals) row.reply t t) (replies.Findings number rows) e in
     let same = rows_read (first_refusal row.refusals) t t number (revision_of v) rows (found_rows (plan_of v) v.deviations v.findings) answered in
     ap (map (λ row. row.finding)) (sym same) ∙ findings_kept (plan_of v) v.deviations v.findings
+
+-- ---- keys
+
+effect_keyed : (t : Tables) (caller : Caller) (request : Option (List ℕ)) (command : Command) (effect : Option Write) (reply : Reply)
+    → IsKeyed t → IsKeyed (effected t caller request command (record { effect = effect; reply = reply }))
+effect_keyed t caller request command None reply h = h
+effect_keyed t caller request command (Some write) reply h =
+    keyed_change (record { write = write; kept = row_to_keep caller request command reply }) t h
+
+row_keyed : (refusal : Option DeskStop) (reply : Reply) (t u : Tables) → IsKeyed t → IsKeyed u → IsKeyed (by_row refusal reply t u).1
+row_keyed None reply t u h after = after
+row_keyed (Some stop) reply t u h after = h
+
+seen_keyed : (kept : Result (Option Reply) DeskStop) (t : Tables) (step : Result Reply DeskStop × Tables) → IsKeyed t → IsKeyed step.1
+    → IsKeyed (unless_kept kept t step).1
+seen_keyed (Ok None) t step h after = after
+seen_keyed (Ok (Some reply)) t step h after = h
+seen_keyed (Err stop) t step h after = h
+
+pub steps_keep_keys : StepsKeepKeys
+steps_keep_keys t caller request command report h =
+    let v = view_of (name_of caller) (project_of command) t in
+    let row = row_for v caller command report in
+    let done = effected t caller request command (record { effect = row.effect; reply = row.reply }) in
+    seen_keyed (seen_answer v caller request command) t (by_row (first_refusal row.refusals) row.reply t done) h
+      (row_keyed (first_refusal row.refusals) row.reply t done h (effect_keyed t caller request command row.effect row.reply h))

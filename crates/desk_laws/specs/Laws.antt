@@ -8,6 +8,7 @@ use Rattle.desk_tables.specs.declared.command.Command.{Command}
 use Rattle.desk_tables.specs.declared.command.Command.TheVariants as commands
 use Rattle.desk_tables.specs.declared.reply.Reply.TheVariants as replies
 use Rattle.desk_tables.specs.declared.found.Found.{Found}
+use Rattle.desk_tables.specs.Keys.{IsKeyed}
 use Rattle.desk_tables.specs.Tables.{Tables, project_named, findings_of, deviations_of, kept_for, counts_of}
 use Rattle.desk_core.specs.declared.caller.Caller.{Caller}
 use Rattle.desk_core.specs.declared.stop.DeskStop.{DeskStop}
@@ -50,3 +51,10 @@ abbrev pub FindingsAreRead : Type 0
 FindingsAreRead = (t : Tables) (caller : Caller) (project : List ℕ) (number : ℕ) (rows : List Found)
     → (desk_step t caller None (commands.ReadFindings project) None).0 ≡ Ok (replies.Findings number rows)
     → map (λ row. row.finding) rows ≡ findings_of project t
+
+-- ---- keys
+
+-- where no two rows of a list have the same key, none has after a step
+abbrev pub StepsKeepKeys : Type 0
+StepsKeepKeys = (t : Tables) (caller : Caller) (request : Option (List ℕ)) (command : Command) (report : Option Report)
+    → IsKeyed t → IsKeyed (desk_step t caller request command report).1

@@ -1,3 +1,3 @@
 pub mod Filters
-pub mod Ordering
+pub mod Sorted
 pub mod Placed
