@@ -1,3 +1,4 @@
+pub mod Changed
 pub mod Filters
-pub mod Sorted
 pub mod Placed
+pub mod Sorted
