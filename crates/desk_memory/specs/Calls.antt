@@ -1,5 +1,5 @@
 -- Which calls of a keeper in memory fail.
-use Rattle.std.specs.Prelude.{◌≡◌, ◌↔◌, ◌+◌, ◌-◌, ◌^◌, ◌==◌, ℕ, min, true, Result, IsErrOf}
+use Rattle.std.specs.Prelude.{◌≡◌, ◌↔◌, ◌+◌, ◌-◌, ◌^◌, ◌==◌, min, true, Result, IsErrOf}
 use Rattle.std.specs.List.{list_any}
 use Rattle.desk_tables.specs.declared.keeper.KeepStop.{KeepStop}
 use Rattle.desk_tables.specs.declared.keeper.KeepStop.TheVariants as keep_stops
