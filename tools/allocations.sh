@@ -1,11 +1,11 @@
 #!/bin/sh
 # Lets each allocation of the built program fail in turn, over the examples and some words, until a run meets
 # no failure, and shows that the answer is the right one or status 8 with a front of the right bytes and its
-# line. Wants gcc and a program that ./misra_desk has built.
+# line. Wants gcc and a program that ./prove has built.
 top=$(cd "$(dirname "$0")/.." && pwd) || exit 1
 program=$top/crates/misra_desk/out/misra_desk
 if [ ! -x "$program" ]; then
-    echo "there is no program yet: ./misra_desk builds it" >&2
+    echo "there is no program yet: ./prove builds it" >&2
     exit 1
 fi
 work=$(mktemp -d) || exit 1

@@ -112,10 +112,7 @@ fn plans_are_judged_entry_by_entry_in_the_order_of_bytes(rt: HostRuntime) -> Res
         ("'D5.2' = 'Required'", "D5.2 Required, "),
         ("\"\\x445.2\" = \"Required\"", "D5.2 Required, "),
         ("\"D5.2\" = \"\"\"\nRequired\"\"\"", "D5.2 Required, "),
-        (
-            "\"D5.2\" = \"Required\"\n\"D5.2\" = \"Mandatory\"",
-            "Text",
-        ),
+        ("\"D5.2\" = \"Required\"\n\"D5.2\" = \"Mandatory\"", "Text"),
         (
             "\"D5.1\" = \"Mandatory\"\n\"D5.2\" = \"Mandatory\"\n\"D5.3\" = \"Mandatory\"
             \"R15.4\" = \"Mandatory\"\n\"R15.5\" = \"Mandatory\"\n\"R17.7\" = \"Mandatory\"
@@ -128,7 +125,11 @@ fn plans_are_judged_entry_by_entry_in_the_order_of_bytes(rt: HostRuntime) -> Res
         ),
     ] {
         let text = format!(in alloc; "[categories]\n{entries}\n")?;
-        assert_eq!(rt; plan_answer(alloc, text.as_str())?.as_str(), want, "at {entries}");
+        assert_eq!(rt;
+            plan_answer(alloc, text.as_str())?.as_str(),
+            want,
+            "at {entries}"
+        );
     }
     for text in [
         "categories = { \"D5.2\" = \"Required\" }",
@@ -136,7 +137,11 @@ fn plans_are_judged_entry_by_entry_in_the_order_of_bytes(rt: HostRuntime) -> Res
         "categories = {\n  \"D5.2\" = \"Required\",\n}",
         "\u{feff}[categories]\n\"D5.2\" = \"Required\"",
     ] {
-        assert_eq!(rt; plan_answer(alloc, text)?.as_str(), "D5.2 Required, ", "at {text}");
+        assert_eq!(rt;
+            plan_answer(alloc, text)?.as_str(),
+            "D5.2 Required, ",
+            "at {text}"
+        );
     }
     Ok(())
 }
@@ -187,8 +192,7 @@ fn approved(
 
 /// Whether an approved pattern from R22.11 for the function and object covers a finding of R22.11 at the object.
 fn pattern_covers(alloc: Global, pattern: &str, object: &str) -> Result<bool, AllocError> {
-    let mut deviation =
-        Deviation::from_first(approved(alloc, Guideline::R22_11, "main", pattern)?);
+    let mut deviation = Deviation::from_first(approved(alloc, Guideline::R22_11, "main", pattern)?);
     deviation.form = Form::Pattern;
     let finding = finding(alloc, Guideline::R22_11, "main", object, Kind::Again)?;
     Ok(covers(&misra_plan(), &deviation, &finding))
@@ -225,7 +229,11 @@ fn patterns_stand_for_numbers_in_brackets_alone(rt: HostRuntime) -> Result<(), F
         ("t[12]", "t[1]", false),
         ("*", "anything", true),
     ] {
-        assert_eq!(rt; pattern_covers(alloc, pattern, object)?, want, "{pattern} at {object}");
+        assert_eq!(rt;
+            pattern_covers(alloc, pattern, object)?,
+            want,
+            "{pattern} at {object}"
+        );
     }
     Ok(())
 }
@@ -247,7 +255,11 @@ fn covered_findings_are_counted_as_deviated(rt: HostRuntime) -> Result<(), Fail>
         finding(alloc, Guideline::D5_1, "second", "x", Kind::Race)?,
     ]?;
     for (function, want, failing) in [
-        ("first", "D5.1 Required Violations 1 1", Some(Guideline::D5_1)),
+        (
+            "first",
+            "D5.1 Required Violations 1 1",
+            Some(Guideline::D5_1),
+        ),
         ("*", "D5.1 Required Deviations 0 2", None),
     ] {
         let first = approved(alloc, Guideline::D5_1, function, "x")?;
@@ -265,7 +277,9 @@ fn covered_findings_are_counted_as_deviated(rt: HostRuntime) -> Result<(), Fail>
 
 // Four threads are made and joined in loops, and a deviation is for the joins of all of them.
 #[test]
-fn a_pattern_covers_what_the_same_text_without_a_form_does_not(rt: HostRuntime) -> Result<(), Fail> {
+fn a_pattern_covers_what_the_same_text_without_a_form_does_not(
+    rt: HostRuntime,
+) -> Result<(), Fail> {
     let alloc = rt.alloc();
     let plan = misra_plan();
     let findings = vec![in alloc;
@@ -287,7 +301,10 @@ fn a_pattern_covers_what_the_same_text_without_a_form_does_not(rt: HostRuntime) 
         assert_eq!(rt; row_text(alloc, &row)?.as_str(), want);
         let rows = summary(&plan, &deviations, &findings);
         assert_eq!(rt; row_text(alloc, &rows[9])?.as_str(), want);
-        assert_eq!(rt; row_text(alloc, &rows[2])?.as_str(), "D5.3 Required Violations 1 0");
+        assert_eq!(rt;
+            row_text(alloc, &rows[2])?.as_str(),
+            "D5.3 Required Violations 1 0"
+        );
         assert_eq!(rt; claim(&rows), Some(Guideline::D5_3));
     }
     Ok(())
@@ -299,7 +316,10 @@ fn a_disapplied_guideline_has_no_violations(rt: HostRuntime) -> Result<(), Fail>
     let plan = crate::with_category(&misra_plan(), Guideline::R15_5, Category::Disapplied);
     let findings = vec![in alloc; finding(alloc, Guideline::R15_5, "main", "-", Kind::Return)?]?;
     let rows = summary(&plan, &Vec::new(alloc), &findings);
-    assert_eq!(rt; row_text(alloc, &rows[4])?.as_str(), "R15.5 Disapplied Disapplied 1 0");
+    assert_eq!(rt;
+        row_text(alloc, &rows[4])?.as_str(),
+        "R15.5 Disapplied Disapplied 1 0"
+    );
     assert_eq!(rt; claim(&rows), None);
     Ok(())
 }

@@ -26,9 +26,10 @@ refused_at F xs i d stop h e (inr c) = inr c
 -- a row behind two refusals that do not hold
 pub decides_behind : (a b : Option DeskStop) (row : Row) (effect : Option Write) (result : Result Decision DeskStop) → a ≡ None → b ≡ None → row.effect ≡ effect
     → Decides row result → Decides (record { refusals = a ∷ b ∷ row.refusals; effect = effect; reply = row.reply }) result
-decides_behind a b row effect (Ok d) e f same h =
-    (ap (λ o. first_refusal (o ∷ b ∷ row.refusals)) e ∙ ap (λ o. first_refusal (o ∷ row.refusals)) f ∙ h.0,
-     h.1 ∙ ap (λ w. record { effect = w; reply = row.reply }) same)
+decides_behind a b row effect (Ok d) e f same h = (
+  ap (λ o. first_refusal (o ∷ b ∷ row.refusals)) e ∙ ap (λ o. first_refusal (o ∷ row.refusals)) f ∙ h.0,
+  h.1 ∙ ap (λ w. record { effect = w; reply = row.reply }) same,
+)
 decides_behind a b row effect (Err stop) e f same (inl h) =
     inl (ap (λ o. first_refusal (o ∷ b ∷ row.refusals)) e ∙ ap (λ o. first_refusal (o ∷ row.refusals)) f ∙ h)
 decides_behind a b row effect (Err stop) e f same (inr h) = inr h

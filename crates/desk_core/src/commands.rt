@@ -14,8 +14,8 @@ ghost use Rattle.desk_core.specs.View.{view_of};
 use crate::caller::{Caller, contains};
 use crate::checks::{
     admitted, below, cited, deviable, deviation, existing, free_name, free_permit, none_approved,
-    not_lowered, open,
-    other_person, permitted, raised, room_for_permit, room_for_project, room_to_keep, submitted,
+    not_lowered, open, other_person, permitted, raised, room_for_permit, room_for_project,
+    room_to_keep, submitted,
 };
 use crate::covering::found_rows;
 use crate::decision::Decision;
@@ -234,7 +234,10 @@ pub fn reject<K: Keeper>(
     raised(&deviation)?;
     room_to_keep(alloc, keeper, caller)?;
     Ok(Decision {
-        effect: Some(Write::SetDeviation(project.clone()?, with_status(deviation, Status::Rejected))),
+        effect: Some(Write::SetDeviation(
+            project.clone()?,
+            with_status(deviation, Status::Rejected),
+        )),
         reply: Reply::Done,
     })
 }
@@ -257,7 +260,10 @@ pub fn withdraw<K: Keeper>(
     open(&deviation)?;
     room_to_keep(alloc, keeper, caller)?;
     Ok(Decision {
-        effect: Some(Write::SetDeviation(project.clone()?, with_status(deviation, Status::Withdrawn))),
+        effect: Some(Write::SetDeviation(
+            project.clone()?,
+            with_status(deviation, Status::Withdrawn),
+        )),
         reply: Reply::Done,
     })
 }

@@ -44,10 +44,7 @@ fn planning(project: &Name, plan: &Plan, entries: &EntryList) -> Result<Decision
 }
 
 /// Refusals 9 and 10 of the entries, guideline by guideline.
-fn all_allowed(
-    entries: &[(Guideline, Category)],
-    deviations: &[Deviation],
-) -> Result<(), DeskStop>
+fn all_allowed(entries: &[(Guideline, Category)], deviations: &[Deviation]) -> Result<(), DeskStop>
     ensures answer { Passes (first_refusal (entries_refused entries.now deviations.now)) result }
     ensures no_fault { is_fault result ≡ false }
 {
@@ -117,11 +114,7 @@ fn with_all(plan: &Plan, entries: &[(Guideline, Category)]) -> Plan
 }
 
 /// The plan with the entries of these guidelines.
-fn with_entries(
-    plan: &Plan,
-    guidelines: &[Guideline],
-    entries: &[(Guideline, Category)],
-) -> Plan
+fn with_entries(plan: &Plan, guidelines: &[Guideline], entries: &[(Guideline, Category)]) -> Plan
     ensures { result ≡ fold (specs_of.with_entry entries.now) plan.now guidelines.now }
 {
     let mut changed = *plan;

@@ -46,7 +46,10 @@ fn is_make_project(name: &Name, members: &NameList, b: &Command) -> bool
     ensures { result ≡ same.is_make_project name.now members.now b.now }
 {
     match b {
-        Command::MakeProject { name: n, members: ms } => name == n && members == ms,
+        Command::MakeProject {
+            name: n,
+            members: ms,
+        } => name == n && members == ms,
         _ => false,
     }
 }
@@ -55,16 +58,39 @@ fn is_submit(project: &Name, length: u32, b: &Command) -> bool
     ensures { result ≡ same.is_submit project.now length b.now }
 {
     match b {
-        Command::Submit { project: p, length: l } => project == p && length == *l,
+        Command::Submit {
+            project: p,
+            length: l,
+        } => project == p && length == *l,
         _ => false,
     }
 }
 
-fn is_raise(project: &Name, guideline: Guideline, function: &Name, object: &Name, reason: &Name, permit: &Option<Name>, b: &Command) -> bool
+fn is_raise(
+    project: &Name,
+    guideline: Guideline,
+    function: &Name,
+    object: &Name,
+    reason: &Name,
+    permit: &Option<Name>,
+    b: &Command,
+) -> bool
     ensures { result ≡ same.is_raise project.now guideline function.now object.now reason.now permit.now b.now }
 {
     match b {
-        Command::Raise { project: p, guideline: g, function: f, object: o, reason: r, permit: c } => project == p && guideline == *g && function == f && object == o && reason == r && permit == c,
+        Command::Raise {
+            project: p,
+            guideline: g,
+            function: f,
+            object: o,
+            reason: r,
+            permit: c,
+        } => project == p
+            && guideline == *g
+            && function == f
+            && object == o
+            && reason == r
+            && permit == c,
         _ => false,
     }
 }
@@ -73,7 +99,10 @@ fn is_approve(project: &Name, deviation: u32, b: &Command) -> bool
     ensures { result ≡ same.is_approve project.now deviation b.now }
 {
     match b {
-        Command::Approve { project: p, deviation: d } => project == p && deviation == *d,
+        Command::Approve {
+            project: p,
+            deviation: d,
+        } => project == p && deviation == *d,
         _ => false,
     }
 }
@@ -82,7 +111,10 @@ fn is_reject(project: &Name, deviation: u32, b: &Command) -> bool
     ensures { result ≡ same.is_reject project.now deviation b.now }
 {
     match b {
-        Command::Reject { project: p, deviation: d } => project == p && deviation == *d,
+        Command::Reject {
+            project: p,
+            deviation: d,
+        } => project == p && deviation == *d,
         _ => false,
     }
 }
@@ -91,7 +123,10 @@ fn is_withdraw(project: &Name, deviation: u32, b: &Command) -> bool
     ensures { result ≡ same.is_withdraw project.now deviation b.now }
 {
     match b {
-        Command::Withdraw { project: p, deviation: d } => project == p && deviation == *d,
+        Command::Withdraw {
+            project: p,
+            deviation: d,
+        } => project == p && deviation == *d,
         _ => false,
     }
 }
@@ -100,7 +135,11 @@ fn is_add_permit(name: &Name, guideline: Guideline, reason: &Name, b: &Command) 
     ensures { result ≡ same.is_add_permit name.now guideline reason.now b.now }
 {
     match b {
-        Command::AddPermit { name: n, guideline: g, reason: r } => name == n && guideline == *g && reason == r,
+        Command::AddPermit {
+            name: n,
+            guideline: g,
+            reason: r,
+        } => name == n && guideline == *g && reason == r,
         _ => false,
     }
 }
@@ -109,7 +148,11 @@ fn is_recategorise(project: &Name, guideline: Guideline, category: Category, b: 
     ensures { result ≡ same.is_recategorise project.now guideline category b.now }
 {
     match b {
-        Command::Recategorise { project: p, guideline: g, category: c } => project == p && guideline == *g && category == *c,
+        Command::Recategorise {
+            project: p,
+            guideline: g,
+            category: c,
+        } => project == p && guideline == *g && category == *c,
         _ => false,
     }
 }
@@ -118,7 +161,10 @@ fn is_apply_plan(project: &Name, entries: &EntryList, b: &Command) -> bool
     ensures { result ≡ same.is_apply_plan project.now entries.now b.now }
 {
     match b {
-        Command::ApplyPlan { project: p, entries: es } => project == p && are_same(entries.items(), es.items()),
+        Command::ApplyPlan {
+            project: p,
+            entries: es,
+        } => project == p && are_same(entries.items(), es.items()),
         _ => false,
     }
 }

@@ -1,5 +1,5 @@
 -- Each step keeps that no approved deviation is from a mandatory guideline.
-use Rattle.std.proofs.Common.{◌≡◌, ◌⊎◌, inl, inr, ℕ, ◌==◌, Bool, true, false, not, ◌&&◌, List, [], ◌∷◌, map, fold, Result, Ok, Err, Option, Some, None, refl, sym, subst, get_or, zero, suc}
+use Rattle.std.proofs.Common.{◌≡◌, ◌⊎◌, inl, inr, ℕ, ◌==◌, Bool, true, false, not, ◌&&◌, List, [], ◌∷◌, map, fold, Option, Some, None, refl, sym, subst}
 use Rattle.std.specs.Prelude.{count_by, filter}
 use Rattle.std.specs.List.{find, list_all}
 use Rattle.std.specs.Option.{is_none, is_some, option_and_then, option_map, option_map_or}
@@ -15,15 +15,13 @@ use Rattle.misra_base.specs.declared.category.Category.{Category}
 use Rattle.misra_base.specs.declared.category.Plan.{Plan}
 use Rattle.compliance_core.specs.Categories.{is_mandatory, misra_plan, plan_with, revised_category}
 use Rattle.compliance_core.specs.Covers.{is_approved}
-use Rattle.desk_tables.specs.declared.change.Write.{Write}
 use Rattle.desk_tables.specs.declared.change.Write.TheVariants as writes
 use Rattle.desk_tables.specs.declared.command.Command.{Command}
 use Rattle.desk_tables.specs.declared.command.Command.TheVariants as commands
-use Rattle.desk_tables.specs.declared.reply.Reply.{Reply}
 use Rattle.desk_tables.specs.declared.rows.ProjectRow.{ProjectRow}
 use Rattle.desk_tables.specs.declared.rows.DeviationRow.{DeviationRow}
 use Rattle.desk_tables.specs.declared.rows.KeptRow.{KeptRow}
-use Rattle.desk_tables.specs.Tables.{Tables, after_keeping, after_write, deviations_of, is_deviation, is_deviation_of, is_named, no_tables, project_named, put, put_deviation, put_plan, put_project, put_revision, rows_of}
+use Rattle.desk_tables.specs.Tables.{Tables, after_keeping, deviations_of, is_deviation, is_deviation_of, is_named, no_tables, project_named, put, put_deviation, put_plan, put_project, put_revision, rows_of}
 use Rattle.desk_core.specs.declared.caller.Caller.{Caller}
 use Rattle.desk_core.specs.declared.stop.DeskStop.{DeskStop}
 use Rattle.desk_core.specs.declared.stop.DeskStop.TheVariants as stops
@@ -31,7 +29,6 @@ use Rattle.desk_core.specs.Callers.{name_of}
 use Rattle.desk_core.specs.Entries.{Entry, category_in, entries_refused, entry_refused, with_all_entries, with_entry}
 use Rattle.desk_core.specs.Refusals.{approved_against, approved_for, first_refusal, lowered, no_project, not_member, refuse_if}
 use Rattle.desk_core.specs.Rows.{approved_by, project_of, row_for, with_status}
-use Rattle.desk_core.specs.Step.{by_row, effected, row_to_keep, seen_answer, unless_kept}
 use Rattle.desk_core.specs.View.{deviation_with, view_of}
 use Rattle.desk_laws.specs.Mandatory.{HasNoMandatoryDeviated, NoMandatoryIsDeviated, NoRunDeviatesMandatory, deviates_from_mandatory, may_stand}
 use Rattle.desk_laws.specs.Runs.{Request, step_of, tables_after}
@@ -141,7 +138,7 @@ room_by : (plan : Plan) (g : Guideline) (c : Category) (d : Deviation) (b : Bool
     → not (b && deviates_from_mandatory (plan_with g c plan) d) ≡ true
 room_by plan g c d true before none =
     room_at (is_approved d.status) (same_guideline d.guideline g) (revised_category plan d.guideline)
-      (revised_category (plan_with g c plan) d.guideline) c before none (revised_with g d.guideline c plan)
+    (revised_category (plan_with g c plan) d.guideline) c before none (revised_with g d.guideline c plan)
 room_by plan g c d false before none = refl
 
 all_free : {R : Type 0} (p : R → Bool) (rows : List R) → list_all (λ x. not (p x && false)) rows ≡ true
@@ -172,9 +169,9 @@ room t project plan g c free h = all_two
     (λ dr before none. room_by plan g c dr.deviation (is_deviation_of project dr) before none)
     t.deviations h
     (none_by (is_mandatory c) (is_deviation_of project) (λ d. is_approved d.status && same_guideline d.guideline g) (λ r. r.deviation) t.deviations
-      (stops.HasApprovedDeviations (approved_for g (rows_of project t)))
-      (subst (λ n. refuse_if (is_mandatory c && not (n == 0)) (stops.HasApprovedDeviations n) ≡ None)
-        (count_sorted (λ d. is_approved d.status && same_guideline d.guideline g) (rows_of project t)) free))
+    (stops.HasApprovedDeviations (approved_for g (rows_of project t)))
+    (subst (λ n. refuse_if (is_mandatory c && not (n == 0)) (stops.HasApprovedDeviations n) ≡ None)
+    (count_sorted (λ d. is_approved d.status && same_guideline d.guideline g) (rows_of project t)) free))
 
 -- the same of one guideline's entry, and of all entries
 entry_room : (t : Tables) (project : List ℕ) (plan : Plan) (g : Guideline) (found : Option Category)
@@ -193,8 +190,8 @@ entries_room t project entries [] plan e h = h
 entries_room t project entries (g ∷ gs) plan e h =
     let all = map (entry_refused entries (deviations_of project t)) (g ∷ gs) in
     entries_room t project entries gs (with_entry entries plan g)
-      (later_refusal (entry_refused entries (deviations_of project t) g) (map (entry_refused entries (deviations_of project t)) gs) e)
-      (entry_room t project plan g (category_in g entries) (none_at all 0 e) h)
+    (later_refusal (entry_refused entries (deviations_of project t) g) (map (entry_refused entries (deviations_of project t)) gs) e)
+    (entry_room t project plan g (category_in g entries) (none_at all 0 e) h)
 
 first_room_by : (t : Tables) (project : List ℕ) (row : ProjectRow) (dr : DeviationRow) (b : Bool) → is_deviation_of project dr ≡ b
     → project_named project t ≡ Some row → may_stand (project_named dr.project t) dr.deviation ≡ true
@@ -255,7 +252,7 @@ unfolding entries_refused with_all_entries
 plan_ok t project entries None f free h = h
 plan_ok t project entries (Some row) f free h =
     replanned t project (Some row) (fold (with_entry entries) row.plan all_guidelines) f
-      (entries_room t project entries all_guidelines row.plan free (first_room t project row f h)) h
+    (entries_room t project entries all_guidelines row.plan free (first_room t project row f h)) h
 
 -- a deviation that is rejected or withdrawn is not approved
 closed_ok : (t : Tables) (project : List ℕ) (status : Status) (found : Option ProjectRow) (d : Option Deviation) → project_named project t ≡ found
@@ -294,7 +291,7 @@ command_ok t caller (commands.ApplyPlan project entries) report e h =
     let v = view_of (name_of caller) project t in
     let rest = entries_refused entries v.deviations in
     plan_ok t project entries (project_named project t) refl
-      (later_refusal (not_member caller v) rest (later_refusal (no_project v) (not_member caller v ∷ rest) e)) h
+    (later_refusal (not_member caller v) rest (later_refusal (no_project v) (not_member caller v ∷ rest) e)) h
 command_ok t caller (commands.ReadSummary project) report e h = tt
 command_ok t caller (commands.ReadFindings project) report e h = tt
 command_ok t caller (commands.ReadClaim project) report e h = tt

@@ -54,12 +54,12 @@ kept_keeps P (Err stop) t step h after = h
 pub step_keeps : (P : Tables → Type 0) (t : Tables) (caller : Caller) (request : Option (List ℕ)) (command : Command) (report : Option Report)
     → LeavesKept P
     → (first_refusal (row_for (view_of (name_of caller) (project_of command) t) caller command report).refusals ≡ None
-        → AfterEffect P (row_for (view_of (name_of caller) (project_of command) t) caller command report).effect t)
+    → AfterEffect P (row_for (view_of (name_of caller) (project_of command) t) caller command report).effect t)
     → P t → P (desk_step t caller request command report).1
 step_keeps P t caller request command report leaves does h =
     let v = view_of (name_of caller) (project_of command) t in
     let row = row_for v caller command report in
     let done = effected t caller request command (record { effect = row.effect; reply = row.reply }) in
     kept_keeps P (seen_answer v caller request command) t (by_row (first_refusal row.refusals) row.reply t done) h
-      (row_keeps P (first_refusal row.refusals) row.reply t done h
-        (λ none. effect_keeps P t caller request command row.effect row.reply leaves (does none) h))
+    (row_keeps P (first_refusal row.refusals) row.reply t done h
+    (λ none. effect_keeps P t caller request command row.effect row.reply leaves (does none) h))

@@ -13,7 +13,6 @@ use Rattle.misra_base.specs.declared.finding.Finding.{Finding}
 use Rattle.misra_base.specs.declared.deviation.Deviation.{Deviation}
 use Rattle.misra_base.specs.declared.deviation.Status.TheVariants as statuses
 use Rattle.misra_base.specs.declared.category.Plan.{Plan}
-use Rattle.desk_tables.specs.declared.change.Write.{Write}
 use Rattle.desk_tables.specs.declared.change.Write.TheVariants as writes
 use Rattle.desk_tables.specs.declared.command.Command.{Command}
 use Rattle.desk_tables.specs.declared.command.Command.TheVariants as commands
@@ -23,7 +22,6 @@ use Rattle.desk_tables.specs.declared.rows.KeptRow.{KeptRow}
 use Rattle.desk_tables.specs.Tables.{Tables, after_keeping, deviations_of, is_deviation, is_deviation_of, no_tables, project_named, put, put_deviation, put_plan, put_revision, rows_of}
 use Rattle.desk_core.specs.declared.caller.Caller.{Caller}
 use Rattle.desk_core.specs.Callers.{name_of}
-use Rattle.desk_core.specs.Refusals.{first_refusal}
 use Rattle.desk_core.specs.Rows.{approved_by, project_of, row_for, with_status}
 use Rattle.desk_core.specs.View.{deviation_with, view_of}
 use Rattle.desk_laws.specs.Numbers.{AreNumbered, DeviationsAreNumbered}
@@ -52,9 +50,9 @@ cons_any a false xs ys = refl
 
 later_place : (b any : Bool) (r : DeviationRow) (put rest : List DeviationRow) (ys : List ℕ)
     → map (λ d. d.id) (map (λ r. r.deviation) put)
-      ≡ cond any (map (λ d. d.id) (map (λ r. r.deviation) rest)) (map (λ d. d.id) (map (λ r. r.deviation) rest) ++ ys)
+    ≡ cond any (map (λ d. d.id) (map (λ r. r.deviation) rest)) (map (λ d. d.id) (map (λ r. r.deviation) rest) ++ ys)
     → map (λ d. d.id) (map (λ r. r.deviation) (cond b (r ∷ put) put))
-      ≡ cond any (map (λ d. d.id) (map (λ r. r.deviation) (cond b (r ∷ rest) rest))) (map (λ d. d.id) (map (λ r. r.deviation) (cond b (r ∷ rest) rest)) ++ ys)
+    ≡ cond any (map (λ d. d.id) (map (λ r. r.deviation) (cond b (r ∷ rest) rest))) (map (λ d. d.id) (map (λ r. r.deviation) (cond b (r ∷ rest) rest)) ++ ys)
 later_place true any r put rest ys e = ap (λ l. r.deviation.id ∷ l) e ∙ cons_any r.deviation.id any (map (λ d. d.id) (map (λ r. r.deviation) rest)) ys
 later_place false any r put rest ys e = e
 
@@ -64,7 +62,7 @@ put_ids q row any rows = cond any (ids q rows) (ids q rows ++ cond (is_deviation
 ids_step : (q : List ℕ) (row r : DeviationRow) (rows : List DeviationRow) (k : Bool) → is_deviation row.project row.deviation.id r ≡ k
     → ids q (put (is_deviation row.project row.deviation.id) row rows) ≡ put_ids q row (list_any (is_deviation row.project row.deviation.id) rows) rows
     → ids q (cond k (row ∷ rows) (r ∷ put (is_deviation row.project row.deviation.id) row rows))
-      ≡ put_ids q row (k || list_any (is_deviation row.project row.deviation.id) rows) (r ∷ rows)
+    ≡ put_ids q row (k || list_any (is_deviation row.project row.deviation.id) rows) (r ∷ rows)
 ids_step q row r rows true e later =
     let project : r.project ≡ row.project = same_name r.project row.project (and_left (bytes_eq r.project row.project) (r.deviation.id == row.deviation.id) e) in
     let id : r.deviation.id ≡ row.deviation.id = eqb-true r.deviation.id row.deviation.id (and_right (bytes_eq r.project row.project) (r.deviation.id == row.deviation.id) e) in
@@ -72,8 +70,8 @@ ids_step q row r rows true e later =
     ∙ same_place (is_deviation_of q r) row r (filter (is_deviation_of q) rows) (sym id)
 ids_step q row r rows false e later =
     later_place (is_deviation_of q r) (list_any (is_deviation row.project row.deviation.id) rows) r
-      (filter (is_deviation_of q) (put (is_deviation row.project row.deviation.id) row rows)) (filter (is_deviation_of q) rows)
-      (cond (is_deviation_of q row) (row.deviation.id ∷ []) []) later
+    (filter (is_deviation_of q) (put (is_deviation row.project row.deviation.id) row rows)) (filter (is_deviation_of q) rows)
+    (cond (is_deviation_of q row) (row.deviation.id ∷ []) []) later
 
 ids_put : (q : List ℕ) (row : DeviationRow) (rows : List DeviationRow)
     → ids q (put (is_deviation row.project row.deviation.id) row rows) ≡ put_ids q row (list_any (is_deviation row.project row.deviation.id) rows) rows
@@ -125,7 +123,7 @@ replaced t project d there h q =
     let row : DeviationRow = record { project = project; deviation = d } in
     let any : list_any (is_deviation project d.id) t.deviations ≡ true = any_id project d.id t.deviations ∙ there in
     let same : ids q (put (is_deviation project d.id) row t.deviations) ≡ ids q t.deviations =
-      ids_put q row t.deviations ∙ ap (λ b. put_ids q row b t.deviations) any in
+    ids_put q row t.deviations ∙ ap (λ b. put_ids q row b t.deviations) any in
     numbered_by (rows_of q (put_deviation project d t)) (length (rows_of q t)) (same ∙ h q)
 
 added_by : (t : Tables) (project q : List ℕ) (b : Bool) (n : ℕ) → bytes_eq project q ≡ b → n ≡ length (rows_of project t)
@@ -143,13 +141,13 @@ added t project d e h q =
     let row : DeviationRow = record { project = project; deviation = d } in
     let n = length (rows_of project t) in
     let fresh : list_any (λ i. i == d.id) (ids project t.deviations) ≡ false =
-      ap (list_any (λ i. i == d.id)) (h project) ∙ beyond 1 n d.id (omega (arith, e)) in
+    ap (list_any (λ i. i == d.id)) (h project) ∙ beyond 1 n d.id (omega (arith, e)) in
     let none : list_any (is_deviation project d.id) t.deviations ≡ false = any_id project d.id t.deviations ∙ fresh in
     let after : ids q (put (is_deviation project d.id) row t.deviations) ≡ ids q t.deviations ++ cond (bytes_eq project q) (d.id ∷ []) [] =
-      ids_put q row t.deviations ∙ ap (λ b. put_ids q row b t.deviations) none in
+    ids_put q row t.deviations ∙ ap (λ b. put_ids q row b t.deviations) none in
     let numbers = added_by t project q (bytes_eq project q) n refl refl h in
     numbered_by (rows_of q (put_deviation project d t)) numbers.0
-      (after ∙ ap (λ k. ids q t.deviations ++ cond (bytes_eq project q) (k ∷ []) []) e ∙ numbers.1)
+    (after ∙ ap (λ k. ids q t.deviations ++ cond (bytes_eq project q) (k ∷ []) []) e ∙ numbers.1)
 
 -- ---- each command
 

@@ -2,9 +2,8 @@
 use Rattle.std.proofs.Common.{◌≡◌, ◌∙◌, ℕ, Bool, true, false, ◌&&◌, List, [], ◌∷◌, Result, Ok, Err, Option, Some, None, refl, sym, ap, subst}
 use Rattle.std.specs.Prelude.{cond, filter}
 use Rattle.std.specs.List.{find}
-use Rattle.std.specs.Option.{option_and_then, option_map_or}
+use Rattle.std.specs.Option.{option_map_or}
 use Rattle.std.specs.Str.{bytes_eq}
-use Rattle.misra_base.specs.declared.report.Report.{Report}
 use Rattle.desk_tables.specs.declared.change.Write.{Write}
 use Rattle.desk_tables.specs.declared.change.Write.TheVariants as writes
 use Rattle.desk_tables.specs.declared.command.Command.{Command}
@@ -21,10 +20,10 @@ use Rattle.desk_core.specs.Forms.{bad_text}
 use Rattle.desk_core.specs.Refusals.{first_refusal}
 use Rattle.desk_core.specs.Rows.{project_of, row_for}
 use Rattle.desk_core.specs.Same.{same_command}
-use Rattle.desk_core.specs.Step.{by_row, desk_step, effected, kept_answer, repeated, row_to_keep, seen_answer, unless_bad, unless_kept}
+use Rattle.desk_core.specs.Step.{by_row, effected, repeated, row_to_keep, seen_answer, unless_bad, unless_kept}
 use Rattle.desk_core.specs.View.{view_of}
 use Rattle.desk_laws.specs.Repeats.{KeptForGood}
-use Rattle.desk_laws.specs.Runs.{Request, step_of, tables_after}
+use Rattle.desk_laws.specs.Runs.{Request, step_of}
 use Rattle.desk_laws.proofs.Putting.{and_left, and_right, find_both, other_put, same_name}
 
 -- ---- what is kept of another request
@@ -60,10 +59,10 @@ stays_put : (t : Tables) (name id : List ℕ) (new row : KeptRow) → kept_by ne
 stays_put t name id new row none found =
     sym (by_both name id (put (same_request new) new t.kept))
     ∙ other_put (same_request new) (is_of name id) new (differs t name id new row new none found refl refl)
-      (λ r e. differs t name id new row r none found
-        (same_name r.caller new.caller (and_left (bytes_eq r.caller new.caller) (bytes_eq r.request new.request) e))
-        (same_name r.request new.request (and_right (bytes_eq r.caller new.caller) (bytes_eq r.request new.request) e)))
-      t.kept
+    (λ r e. differs t name id new row r none found
+    (same_name r.caller new.caller (and_left (bytes_eq r.caller new.caller) (bytes_eq r.request new.request) e))
+    (same_name r.request new.request (and_right (bytes_eq r.caller new.caller) (bytes_eq r.request new.request) e)))
+    t.kept
     ∙ by_both name id t.kept ∙ found
 
 -- ---- a write leaves what is kept
@@ -104,7 +103,7 @@ keeping_stays : (t u : Tables) (caller : Caller) (request : Option (List ℕ)) (
     → kept_by name id t ≡ Some row → kept_by name id (after_keeping (row_to_keep caller request command reply) u) ≡ Some row
 keeping_stays t u (Member caller) (Some request) command reply name id row same seen found =
     let none : kept_by caller request t ≡ None =
-        not_kept_by command (bad_text (Member caller) (Some request) command) (kept_by caller request t) seen in
+    not_kept_by command (bad_text (Member caller) (Some request) command) (kept_by caller request t) seen in
     let new : KeptRow = record { caller = caller; request = request; command = command; reply = reply } in
     stays_put u name id new row (same_kept caller request u t same ∙ none) (same_kept name id u t same ∙ found)
 keeping_stays t u (Member caller) None command reply name id row same seen found = same_kept name id u t same ∙ found
@@ -134,8 +133,8 @@ step_stays t r name id row found =
     let does = row_for v r.caller r.command r.report in
     let done = effected t r.caller r.id r.command (record { effect = does.effect; reply = does.reply }) in
     seen_stays (seen_answer v r.caller r.id r.command) t (by_row (first_refusal does.refusals) does.reply t done) name id row found
-      (λ seen. row_stays (first_refusal does.refusals) does.reply t done name id row found
-        (effect_stays t r.caller r.id r.command does.effect does.reply name id row seen found))
+    (λ seen. row_stays (first_refusal does.refusals) does.reply t done name id row found
+    (effect_stays t r.caller r.id r.command does.effect does.reply name id row seen found))
 
 pub kept_for_good : KeptForGood
 kept_for_good t [] name id row found = found

@@ -148,4 +148,4 @@ steps_keep_keys t caller request command report h =
     let row = row_for v caller command report in
     let done = effected t caller request command (record { effect = row.effect; reply = row.reply }) in
     seen_keyed (seen_answer v caller request command) t (by_row (first_refusal row.refusals) row.reply t done) h
-      (row_keyed (first_refusal row.refusals) row.reply t done h (effect_keyed t caller request command row.effect row.reply h))
+    (row_keyed (first_refusal row.refusals) row.reply t done h (effect_keyed t caller request command row.effect row.reply h))

@@ -1,5 +1,5 @@
 -- A row that is put in the place of the row with its key leaves the keys different.
-use Rattle.std.proofs.Common.{◌≡◌, ◌∙◌, ℕ, Bool, true, false, not, ◌&&◌, ◌||◌, ◌==◌, cond, List, [], ◌∷◌, Option, Some, None, refl, ap, sym, subst}
+use Rattle.std.proofs.Common.{◌≡◌, ℕ, Bool, true, false, not, ◌&&◌, ◌||◌, ◌==◌, cond, List, [], ◌∷◌, Option, Some, None, refl, ap, sym, subst}
 use Rattle.std.specs.Bool.{Decides}
 use Rattle.std.specs.List.{find, list_any}
 use Rattle.std.specs.Str.{bytes_eq}
@@ -16,7 +16,7 @@ use Rattle.misra_base.specs.declared.category.Plan.{Plan}
 use Rattle.desk_tables.specs.declared.change.Change.{Change}
 use Rattle.desk_tables.specs.declared.change.Write.{Write}
 use Rattle.desk_tables.specs.declared.change.Write.TheVariants as writes
-use Rattle.desk_tables.specs.Keys.{IsKeyed, are_keyed, has_keys}
+use Rattle.desk_tables.specs.Keys.{IsKeyed, are_keyed}
 use Rattle.desk_tables.specs.Tables.{Tables, after_change, after_keeping, after_write, is_deviation, is_found_in, is_named, is_permit, put, put_plan, put_revision, project_named, put_deviation, same_request}
 
 -- ---- tests
@@ -87,7 +87,7 @@ module _ {R K : Type 0} (key : R → K) (has_key : K → R → Bool) (is : IsKey
       subst (λ k. (not (list_any (has_key k) rows) && are_keyed (λ x y. has_key (key x) y) rows) ≡ true) ((is.decides (key row) r).0 same) keyed
   keyed_step row r rows rest false other keyed put_is later =
       let none : list_any (has_key (key r)) (put (has_key (key row)) row rows) ≡ false =
-          none_put (has_key (key r)) (has_key (key row)) row (other_way row r other) rows (none_of (list_any (has_key (key r)) rows) (and_left (not (list_any (has_key (key r)) rows)) (are_keyed (λ x y. has_key (key x) y) rows) keyed)) in
+      none_put (has_key (key r)) (has_key (key row)) row (other_way row r other) rows (none_of (list_any (has_key (key r)) rows) (and_left (not (list_any (has_key (key r)) rows)) (are_keyed (λ x y. has_key (key x) y) rows) keyed)) in
       and_both (not (list_any (has_key (key r)) rest)) (are_keyed (λ x y. has_key (key x) y) rest)
       (not_none (list_any (has_key (key r)) rest) (subst (λ l. list_any (has_key (key r)) l ≡ false) (sym put_is) none)) later
 
@@ -110,9 +110,10 @@ permit_is_key : IsKey (λ (r : Permit). r.name) is_permit
 permit_is_key = record { decides = λ k r. bytes_eq-Decides r.name k }
 
 both_decide : {A B : Type 0} (p q : Bool) (a c : A) (b d : B) → Decides p (a ≡ c) → Decides q (b ≡ d) → Decides (p && q) (◌≡◌ {A = A × B} (a, b) (c, d))
-both_decide p q a c b d left right =
-    (λ e. λ i. (left.0 (and_left p q e) i, right.0 (and_right p q e) i),
-     λ e. and_both p q (left.1 (ap (λ x. x.0) e)) (right.1 (ap (λ x. x.1) e)))
+both_decide p q a c b d left right = (
+  λ e. λ i. (left.0 (and_left p q e) i, right.0 (and_right p q e) i),
+  λ e. and_both p q (left.1 (ap (λ x. x.0) e)) (right.1 (ap (λ x. x.1) e)),
+)
 
 id_is_key : IsKey {K = List ℕ × ℕ} (λ (r : DeviationRow). (r.project, r.deviation.id)) (λ k r. is_deviation k.0 k.1 r)
 id_is_key = record { decides = λ k r. both_decide (bytes_eq r.project k.0) (r.deviation.id == k.1) r.project k.0 r.deviation.id k.1 (bytes_eq-Decides r.project k.0) (Decides-eqb r.deviation.id k.1) }
@@ -161,7 +162,7 @@ five false b c d e h = (cc, cc, cc, cc, cc)
 lists_of : (t : Tables) → IsKeyed t → Lists t
 lists_of t h =
     let f = five (are_keyed (λ a b. is_named a.name b) t.projects) (are_keyed (λ a b. is_found_in a.project b) t.findings)
-      (are_keyed (λ a b. is_deviation a.project a.deviation.id b) t.deviations) (are_keyed (λ a b. is_permit a.name b) t.permits) (are_keyed same_request t.kept) h in
+    (are_keyed (λ a b. is_deviation a.project a.deviation.id b) t.deviations) (are_keyed (λ a b. is_permit a.name b) t.permits) (are_keyed same_request t.kept) h in
     record { projects = f.0; findings = f.1; deviations = f.2; permits = f.3; kept = f.4 }
 
 from_lists : (t : Tables) → Lists t → IsKeyed t

@@ -1,5 +1,5 @@
 -- Which replies are kept: those to commands that change the tables.
-use Rattle.std.specs.Prelude.{◌≡◌, Bool, true, false, Option, Some, None}
+use Rattle.std.specs.Prelude.{Bool, true, false, Option, Some, None}
 use Rattle.desk_tables.specs.declared.reply.Reply.{Reply}
 use Rattle.desk_tables.specs.declared.reply.Reply.TheVariants as replies
 use Rattle.desk_tables.specs.declared.rows.KeptRow.{KeptRow}

@@ -1,12 +1,6 @@
 -- In each list of the tables the rows have different keys.
-use Rattle.std.specs.Prelude.{◌≡◌, ℕ, Bool, true, not, ◌&&◌, ◌==◌, List, [], ◌∷◌}
+use Rattle.std.specs.Prelude.{◌≡◌, Bool, true, not, ◌&&◌, List, [], ◌∷◌}
 use Rattle.std.specs.List.{list_any}
-use Rattle.std.specs.Str.{bytes_eq}
-use Rattle.misra_base.specs.declared.permit.Permit.{Permit}
-use Rattle.desk_tables.specs.declared.rows.ProjectRow.{ProjectRow}
-use Rattle.desk_tables.specs.declared.rows.FoundRow.{FoundRow}
-use Rattle.desk_tables.specs.declared.rows.DeviationRow.{DeviationRow}
-use Rattle.desk_tables.specs.declared.rows.KeptRow.{KeptRow}
 use Rattle.desk_tables.specs.Tables.{Tables, is_deviation, is_found_in, is_named, is_permit, same_request}
 
 -- no row has the key of an earlier one

@@ -35,8 +35,4 @@ fn words_of_line(rt: &HostRuntime) -> Result<Vec<String>, AllocError> {
 }
 
 #[cfg(test)]
-mod syntax_rows;
-#[cfg(test)]
-mod syntax_tests;
-#[cfg(test)]
 mod tests;

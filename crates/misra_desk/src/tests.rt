@@ -23,7 +23,7 @@ const CLEAN: &str = "report 1\nR22.17 clean\nfindings 0\n";
 
 /// One run of the program over the file `text.c`, with what it writes and its status.
 #[derive(Clone, Copy)]
-pub(crate) struct Case<'a> {
+struct Case<'a> {
     words: &'a [&'a str],
     text: &'a str,
     /// The numbers of the calls of the files that fail.
@@ -58,7 +58,7 @@ fn status_of(alloc: Global, case: &Case, out: &mut MemorySink) -> Result<u8, All
 }
 
 /// Shows that the program does what the case says.
-pub(crate) fn show(rt: &impl Abort, alloc: Global, case: Case) -> Result<(), Fail> {
+fn show(rt: &impl Abort, alloc: Global, case: Case) -> Result<(), Fail> {
     let Case { text, status, .. } = case;
     let mut out = MemorySink::new(alloc, Vec::from_slice(alloc, case.output_failing)?);
     let answered = status_of(alloc, &case, &mut out)?;
@@ -68,7 +68,7 @@ pub(crate) fn show(rt: &impl Abort, alloc: Global, case: Case) -> Result<(), Fai
 }
 
 /// `check` over a text, where no call fails.
-pub(crate) fn checked<'a>(text: &'a str, output: &'a str, status: u8) -> Case<'a> {
+fn checked<'a>(text: &'a str, output: &'a str, status: u8) -> Case<'a> {
     Case {
         words: &["check", "text.c"],
         text,
@@ -80,14 +80,14 @@ pub(crate) fn checked<'a>(text: &'a str, output: &'a str, status: u8) -> Case<'a
 }
 
 /// A whole text of the form with these lines at its end.
-pub(crate) fn framed(alloc: Global, lines: &str) -> Result<String, AllocError> {
+fn framed(alloc: Global, lines: &str) -> Result<String, AllocError> {
     let mut text = String::from_str(alloc, HEAD)?;
     text.push_str(lines)?;
     text.push_str(TAIL)?;
     Ok(text)
 }
 
-pub(crate) fn repeated(alloc: Global, piece: &str, count: usize) -> Result<String, AllocError> {
+fn repeated(alloc: Global, piece: &str, count: usize) -> Result<String, AllocError> {
     let mut text = String::new(alloc);
     for _ in 0..count {
         text.push_str(piece)?;
@@ -97,7 +97,7 @@ pub(crate) fn repeated(alloc: Global, piece: &str, count: usize) -> Result<Strin
 
 /// Lines at the end of a whole text, with what is written for it and the status. With the first two the texts are
 /// examples/unlock.c and examples/lock.c.
-pub(crate) fn framed_rows() -> [(&'static str, &'static str, u8); 9] {
+fn framed_rows() -> [(&'static str, &'static str, u8); 9] {
     [
         ("    (void)mtx_unlock(&m);\n", FOUND, 1),
         (
@@ -138,7 +138,7 @@ fn texts_of_the_form_are_judged_and_others_refused(rt: HostRuntime) -> Result<()
 }
 
 /// Whole texts, with what is written for them and the status. The first one is examples/empty.c.
-pub(crate) fn whole_rows() -> [(&'static str, &'static str, u8); 21] {
+fn whole_rows() -> [(&'static str, &'static str, u8); 21] {
     [
         ("", "refused U0 1:1 not-built\n", 2),
         ("#include <threads.h>", "refused U0 1:21 not-built\n", 2),

@@ -1,0 +1,16 @@
+pub mod Analyses
+pub mod Candidates
+pub mod Depths
+pub mod Facts
+pub mod Following
+pub mod Lives
+pub mod ObjectPaths
+pub mod ObjectStates
+pub mod Order
+pub mod Outcomes
+pub mod OwnerLaws
+pub mod Owning
+pub mod Points
+pub mod Seen
+pub mod ThreadLaws
+pub mod ThreadStates
