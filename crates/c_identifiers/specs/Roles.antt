@@ -1,5 +1,5 @@
 -- How the identifiers of a text are declared: name space, kind, storage duration and linkage (C11 6.2.2 to 6.2.4, 6.7p5).
-use Rattle.std.specs.Prelude.{Bool, true, false, ◌||◌, ◌&&◌, not, if◌then◌else◌, Option, Some, None}
+use Rattle.std.specs.Prelude.{Bool, true, false, ◌||◌, ◌&&◌, not, if◌then◌else◌, Some, None}
 use Rattle.misra_base.specs.declared.place.Place.{Place}
 use Rattle.c_names.specs.declared.declaration.NameSpace.{NameSpace}
 use Rattle.c_names.specs.declared.declaration.NameSpace.TheVariants.{Ordinary, Tags, Members}

@@ -1,5 +1,5 @@
 -- What scopes see of declarations and statements (C11 6.2.1, 6.7, 6.8).
-use Rattle.std.specs.Prelude.{Bool, true, false, List, [], ◌∷◌, ◌++◌, Option, Some, None}
+use Rattle.std.specs.Prelude.{true, false, List, [], ◌∷◌, ◌++◌, Option, Some, None}
 use Rattle.std.specs.Option.{is_some}
 use Rattle.c_names.specs.declared.declaration.Kind.TheVariants as a
 use Rattle.c_tree.specs.declared.expression.Word.{Word}

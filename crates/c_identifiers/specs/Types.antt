@@ -1,9 +1,8 @@
 -- Types, so far as it matters whether a function may be called without a body: arithmetic, void, or neither.
-use Rattle.std.specs.Prelude.{Bool, true, false, ◌||◌, ◌==◌, not, if◌then◌else◌, List, [], ◌∷◌, Option, Some, None, ℕ, codes}
+use Rattle.std.specs.Prelude.{Bool, true, false, ◌||◌, if◌then◌else◌, List, [], ◌∷◌, ℕ, codes}
 use Rattle.std.specs.Option.{is_some, is_none}
 use Rattle.std.specs.Str.{bytes_eq}
 use Rattle.c_tree.specs.declared.expression.Word.{Word}
-use Rattle.c_tree.specs.declared.expression.Keyword.{Keyword}
 use Rattle.c_tree.specs.declared.expression.Keyword.TheVariants.{Void as void_}
 use Rattle.c_tree.specs.Expressions
 use Rattle.c_tree.specs.Statements

@@ -7,7 +7,7 @@ use Rattle.c_tree.specs.Statements
 use Rattle.c_identifiers.specs.declared.event.Form.TheVariants.{Other as unjudged}
 use Rattle.c_identifiers.specs.declared.event.Usage.TheVariants.{Evaluated}
 use Rattle.c_identifiers.specs.declared.event.Event.{Event}
-use Rattle.c_identifiers.specs.declared.event.Event.TheVariants.{Open, Close, Parameter}
+use Rattle.c_identifiers.specs.declared.event.Event.TheVariants.{Parameter}
 use Rattle.c_identifiers.specs.declared.roles.Level.TheVariants.{File}
 use Rattle.c_identifiers.specs.Roles.{parameter_role, typedef_role, function_role}
 use Rattle.c_identifiers.specs.Types.{parameter_form, typedef_form, function_form}

@@ -8,10 +8,7 @@ use indexmap::IndexSet;
 use std::alloc::{AllocError, Global};
 
 /// The spellings, in the order of their first appearance.
-pub(crate) fn texts_of(
-    alloc: Global,
-    events: &[Event],
-) -> Result<IndexSet<Vec<u8>>, AllocError>
+pub(crate) fn texts_of(alloc: Global, events: &[Event]) -> Result<IndexSet<Vec<u8>>, AllocError>
     ensures { IfOk result (λ names. texts names ≡ texts_of events.now) }
 {
     let mut names = IndexSet::new(alloc);
@@ -21,11 +18,7 @@ pub(crate) fn texts_of(
     Ok(names)
 }
 
-fn add_event(
-    alloc: Global,
-    names: &mut IndexSet<Vec<u8>>,
-    event: &Event,
-) -> Result<(), AllocError>
+fn add_event(alloc: Global, names: &mut IndexSet<Vec<u8>>, event: &Event) -> Result<(), AllocError>
     ensures { OnOk result (texts names.new ≡ with_event (texts names.old) event.now) }
 {
     match event {
@@ -36,11 +29,7 @@ fn add_event(
     }
 }
 
-fn add_word(
-    alloc: Global,
-    names: &mut IndexSet<Vec<u8>>,
-    word: &Word,
-) -> Result<(), AllocError>
+fn add_word(alloc: Global, names: &mut IndexSet<Vec<u8>>, word: &Word) -> Result<(), AllocError>
     ensures { OnOk result (texts names.new ≡ with_word (texts names.old) word.now) }
 {
     names.insert(Vec::from_slice(alloc, word.text.bytes())?)?;
@@ -51,9 +40,7 @@ fn add_word(
 pub(crate) fn number_of(names: &IndexSet<Vec<u8>>, word: &Word) -> usize
     ensures { result ≡ number_of (texts names.now) word.now }
 {
-    names
-        .get_index_of(word.text.bytes())
-        .unwrap_or(names.len())
+    names.get_index_of(word.text.bytes()).unwrap_or(names.len())
 }
 
 pub(crate) fn spot(names: &IndexSet<Vec<u8>>, word: &Word) -> Spot

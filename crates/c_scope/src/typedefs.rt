@@ -107,12 +107,7 @@ impl Typedefs {
     }
 
     /// Whether the word is a name of the library, or of a typedef.
-    fn is_reserved(
-        &self,
-        table: &KeyTable<74>,
-        names: &IndexSet<Vec<u8>>,
-        word: &Word,
-    ) -> bool
+    fn is_reserved(&self, table: &KeyTable<74>, names: &IndexSet<Vec<u8>>, word: &Word) -> bool
         requires { rows table.now ≡ library_rows }
         ensures { (before : List TheSpelled) → Recalls self.now before → result ≡ is_reserved (texts names.now) before word.now }
     {
