@@ -1,0 +1,5 @@
+pub mod OfKinds
+pub mod Shapes
+pub mod Comes
+pub mod Arithmetic
+pub mod Evaluating
