@@ -33,6 +33,12 @@ opened right s = record s { pending = right ++ drop 1 s.pending }
 pub record Reads (pieces : List Piece) (old new : State) : Type 0 where
   pub spells : Spells old.source.text pieces old.rest new.rest
 
+-- the tokens between the two states are the last of these pieces, of which the first ones were read before
+pub record ReadsBehind (front whole : List Piece) (old new : State) : Type 0 where
+  pub behind : List Piece
+  pub is : whole ≡ front ++ behind
+  pub reads : Reads behind old new
+
 -- the tokens leave the grammar where the stop says, or memory was short
 unfoldable pub Stops : Source → ParseStop → Type 0
 Stops source stop = IsStop PRODUCTIONS (map (λ token. token.class) source.tokens) stop
