@@ -9,3 +9,4 @@ mod Silence
 mod Turns
 mod Exclusion
 mod Phases
+mod Ordered

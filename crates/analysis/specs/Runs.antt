@@ -43,3 +43,7 @@ IsRun p (choice ∷ choices) = IsGoodRun p choices × IsStep (outcome (state_aft
 abbrev pub Breaks : Guideline → Program → List Choice → Type 0
 Breaks guideline p [] = ⊥
 Breaks guideline p (choice ∷ choices) = is_broken (state_after p choices) choice.thread (request_by (state_after p choices) choice) guideline ≡ true
+
+-- no step of any run of the program breaks the guideline
+abbrev pub IsKept : Guideline → Program → Type 0
+IsKept guideline p = (run : List Choice) → IsRun p run → ¬ (Breaks guideline p run)

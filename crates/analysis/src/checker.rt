@@ -1,16 +1,16 @@
-ghost use Rattle.std.specs.Prelude.{◌≡◌, ◌<◌, List, length, All, IfOk, IfErr, MatchResult};
+ghost use Rattle.std.specs.Prelude.{◌≡◌, ◌<◌, length, All, Contains, IfOk, IfErr, MatchResult};
 ghost use Rattle.misra_base.specs.Reports.{IsSilent};
 ghost use Rattle.misra_base.specs.declared.refusal.CheckStop.TheVariants.{Memory};
-ghost use Rattle.misra_base.specs.declared.guideline.Guideline.TheVariants.{R22_17};
+ghost use Rattle.misra_base.specs.declared.guideline.Guideline.{Guideline as TheGuideline};
+ghost use Rattle.misra_base.specs.Orders.{findings_in_order};
 ghost use Rattle.analysis.specs.Form.{Program};
 ghost use Rattle.analysis.specs.Faults.{IsSupportedAs, IsFirstFault, StopsAt};
-ghost use Rattle.analysis.specs.Findings.{findings_of as found_in};
-ghost use Rattle.analysis.specs.Step.{Choice};
-ghost use Rattle.analysis.specs.Runs.{IsRun, Breaks};
+ghost use Rattle.analysis.specs.Findings.{judged, findings_of as found_in};
+ghost use Rattle.analysis.specs.Runs.{IsKept};
 
 use crate::findings::findings_of;
 use crate::form::program_of;
-use crate::laws::silence_is_sound;
+use crate::laws::{findings_are_in_order, silence_is_sound};
 use crate::parsed::Parsed;
 use c_grammar::tree;
 use c_lexer::tokens;
@@ -26,15 +26,18 @@ pub fn analyse(alloc: Global, text: &[u8]) -> Result<Report, CheckStop>
     ensures only { (p : Program) → IsSupportedAs text.now p → MatchResult result (λ report. report.found ≡ found_in p) (λ e. e ≡ Memory) }
     // Any other text is refused by its first fault.
     ensures refused { IfErr result (StopsAt (IsFirstFault text.now)) }
-    // Where Rule 22.17 has no finding, no step of any run of the text breaks it.
-    ensures silence { IfOk result (λ report. (p : Program) → IsSupportedAs text.now p → IsSilent R22_17 report.found
-        → (run : List Choice) → IsRun p run → ¬ (Breaks R22_17 p run)) }
+    // The findings stand in order, each once.
+    ensures order { IfOk result (λ report. findings_in_order report.found) }
+    // Where a guideline that is judged has no finding, no step of any run of the text breaks it.
+    ensures silence { IfOk result (λ report. (p : Program) → IsSupportedAs text.now p → (guideline : TheGuideline) → Contains judged guideline
+        → IsSilent guideline report.found → IsKept guideline p) }
 {
     let tokens = tokens(alloc, text)?;
     tree(alloc, text, &tokens)?;
     let program = program_of(alloc, text, &tokens)?;
     let report = report_of(alloc, &program)?;
     silence_is_sound();
+    findings_are_in_order();
     Ok(report)
 }
 

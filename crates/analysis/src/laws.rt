@@ -2,19 +2,25 @@
 
 ghost use Rattle.std.specs.Prelude.{◌≡◌, true, List};
 ghost use Rattle.misra_base.specs.declared.guideline.Guideline.TheVariants.{R22_17};
-ghost use Rattle.misra_base.specs.Reports.{IsSilent};
-ghost use Rattle.analysis.specs.Form.{Program};
-ghost use Rattle.analysis.specs.Laws.{ProgramIsOne, SupportedHasNoFault, FirstFaultIsOne};
-ghost use Rattle.analysis.specs.Findings.{findings_of};
+ghost use Rattle.analysis.specs.Laws.{ProgramIsOne, SupportedHasNoFault, FirstFaultIsOne, SilenceIsSound, FindingsAreInOrder};
 ghost use Rattle.analysis.specs.Step.{Choice};
 ghost use Rattle.analysis.specs.Runs.{IsRun, IsGoodRun, Breaks, state_after};
 ghost use Rattle.analysis.specs.Samples.{unlock_alone, lock_and_unlock};
 
-/// Where Rule 22.17 has no finding in a program, no run of it, of any length, breaks the rule by its
-/// last step.
+use lexical_laws::places_rise;
+
+/// Where a guideline that is judged has no finding in a program, no run of it, of any length, breaks
+/// the guideline.
 pub fn silence_is_sound()
-    ensures { (p : Program) → IsSilent R22_17 (findings_of p) → (run : List Choice) → IsRun p run → ¬ (Breaks R22_17 p run) }
+    ensures { SilenceIsSound }
 {}
+
+/// The findings of a text's program stand in order, each once.
+pub fn findings_are_in_order()
+    ensures { FindingsAreInOrder }
+{
+    places_rise();
+}
 
 /// A text has one program.
 pub fn program_is_one()

@@ -12,7 +12,7 @@ mod reading;
 
 pub use checker::analyse;
 pub use laws::{
-    first_fault_is_one, program_is_one, silence_is_sound, some_run_breaks, some_run_returns,
-    supported_has_no_fault,
+    findings_are_in_order, first_fault_is_one, program_is_one, silence_is_sound, some_run_breaks,
+    some_run_returns, supported_has_no_fault,
 };
 pub use program::{Call, Operation};

@@ -5,7 +5,7 @@ ghost use Rattle.analysis.specs.Form.{is_declared};
 use crate::parsed::Parsed;
 use crate::position::Position;
 use crate::program::{Call, Operation};
-use c_lexer::{FIRST_PLACE, is_identifier};
+use c_lexer::{FIRST_PLACE, ReservedWords};
 use misra_base::{Name, Place};
 use std::alloc::{AllocError, Global};
 use std::marker::Model;
@@ -16,6 +16,7 @@ const MAX_MUTEXES: usize = 64;
 /// What was read of a text so far.
 #[derive(Drop)]
 pub(crate) struct Reading {
+    reserved: ReservedWords,
     position: Position,
     /// The name that is being declared.
     named: Option<Name>,
@@ -40,6 +41,7 @@ impl Reading {
         ensures { result ≡ opening_reading }
     {
         Reading {
+            reserved: ReservedWords::new(),
             position: Position::Declarations,
             named: None,
             mutexes: Vec::new(alloc),
@@ -88,7 +90,7 @@ impl Reading {
     fn read_name(&mut self, alloc: Global, word: &[u8]) -> Result<bool, AllocError>
         ensures { IfOk result (λ went. MatchBool went (with_name self.old word.now ≡ Some self.new) (with_name self.old word.now ≡ None)) }
     {
-        if !is_identifier(word) || is_declared(&self.mutexes, word) {
+        if !self.reserved.is_identifier(word) || is_declared(&self.mutexes, word) {
             return Ok(false);
         }
         self.named = Some(Name::from_bytes(alloc, word)?);

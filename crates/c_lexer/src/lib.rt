@@ -23,10 +23,12 @@ mod token_class;
 mod token_table;
 mod typedef_name;
 
-pub use identifiers::is_identifier;
+pub use identifiers::ReservedWords;
 pub use integer::{IntegerLiteral, IntegerType, integer_literal};
 pub use literal::{NumberLiteral, character_literal, number_literal};
+pub use piece::{Fault, LexemeKind, Piece};
 pub use position::{FIRST_PLACE, place_after};
 pub use scanner::{MAX_BYTES, MAX_TOKENS, tokens};
 pub use token::Token;
 pub use token_class::TokenClass;
+pub use typedef_name::Stretch;

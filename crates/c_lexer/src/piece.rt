@@ -12,7 +12,7 @@ use std::alloc::{AllocError, Global};
 
 /// Why a place of a text begins no token.
 #[derive(Clone, Copy, Debug, PartialEq, Eq)]
-pub(crate) enum Fault {
+pub enum Fault {
     /// A byte that stands in no token.
     ForeignByte,
     /// A comment, or a literal in its line, that is not closed.
@@ -25,7 +25,7 @@ pub(crate) enum Fault {
 
 /// The kind of a lexeme, which is the slice of a token.
 #[derive(Clone, Copy, Debug, PartialEq, Eq)]
-pub(crate) enum LexemeKind {
+pub enum LexemeKind {
     /// A letter or `_`, then letters, digits and `_`.
     Word,
     /// A digit, or a point and a digit, and what goes on a number.
@@ -39,7 +39,7 @@ pub(crate) enum LexemeKind {
 
 /// What stands at the front of what is left of a text, with its number of bytes.
 #[derive(Clone, Copy, Debug, PartialEq, Eq)]
-pub(crate) enum Piece {
+pub enum Piece {
     /// A blank, a comment or a line that says nothing to the grammar.
     Passed(usize),
     Token(LexemeKind, usize),

@@ -10,7 +10,7 @@ use std::alloc::{AllocError, Global};
 
 /// Where a token stands: outside each declaration that `typedef` begins, or inside one.
 #[derive(Clone, Copy, Debug, PartialEq, Eq)]
-pub(crate) struct Stretch {
+pub struct Stretch {
     inside: bool,
     /// How many brackets are open.
     depth: u32,

@@ -45,10 +45,16 @@ pub record FilesView : Type 0 where
   pub shelf : ShelfView
   pub calls : CallsView
 
--- the bytes written
+-- the bytes written, the calls, and how many of them found no memory
 pub record SinkView : Type 0 where
   pub written : List ℕ
   pub calls : CallsView
+  pub shortages : ℕ
+
+-- the same of a sink without calls that fail
+pub record SureSinkView : Type 0 where
+  pub written : List ℕ
+  pub shortages : ℕ
 
 -- what no open, no read and no write changes
 abbrev pub fixed_part : FilesView → NamedFiles × List ℕ

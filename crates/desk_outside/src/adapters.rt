@@ -107,6 +107,8 @@ impl<W: Write + Drop> Sink for StdSink<W> {
 
     ghost faults = { λ s. s.faults };
 
+    ghost shortages = { λ _. 0 };
+
     ghost Rest = { Unit {0} };
 
     ghost rest = { λ _. tt };

@@ -88,6 +88,7 @@ pub fn write_all<O: Sink>(out: &mut O, bytes: &[u8]) -> Result<(), WriteStop>
     ensures rest { O.rest out.new ≡ O.rest out.old }
     ensures cause { HasCause WriteStop.Failed (O.faults out.old) (O.faults out.new) result }
     ensures memory { IsErrOf result WriteStop.Memory → O.faults out.new ≡ O.faults out.old }
+    ensures shortage { HasCause WriteStop.Memory (O.shortages out.old) (O.shortages out.new) result }
 {
     let mut done = 0;
     while done < bytes.len() {

@@ -113,6 +113,7 @@ impl Files for MemoryFiles {
 pub struct MemorySink {
     written: Vec<u8>,
     calls: Calls,
+    shortages: u64,
 }
 
 impl Model for MemorySink {
@@ -120,7 +121,7 @@ impl Model for MemorySink {
 
     ghost Value = { SinkView };
 
-    ghost view = { λ s. record { written = s.written.items; calls = s.calls } };
+    ghost view = { λ s. record { written = s.written.items; calls = s.calls; shortages = s.shortages } };
 }
 
 impl MemorySink {
@@ -134,6 +135,7 @@ impl MemorySink {
         MemorySink {
             written: Vec::new(alloc),
             calls: Calls::new(failing),
+            shortages: 0,
         }
     }
 
@@ -156,6 +158,8 @@ impl Sink for MemorySink {
 
     ghost faults = { λ s. s.calls.faults };
 
+    ghost shortages = { λ s. s.shortages };
+
     ghost Rest = { List ℕ };
 
     ghost rest = { λ s. s.calls.failing };
@@ -166,6 +170,7 @@ impl Sink for MemorySink {
         ensures rest { self.new.calls.failing ≡ self.old.calls.failing }
         ensures cause { HasCause WriteStop.Failed self.old.calls.faults self.new.calls.faults result }
         ensures memory { IsErrOf result WriteStop.Memory → self.new.calls.faults ≡ self.old.calls.faults }
+        ensures shortage { HasCause WriteStop.Memory self.old.shortages self.new.shortages result }
 
         // It takes whole pieces. Exactly where it fails, and what it counts.
         ensures all { IfOk result (λ count. count ≡ length piece.now) }
@@ -178,7 +183,10 @@ impl Sink for MemorySink {
         }
         match self.written.extend_from_slice(piece) {
             Ok(()) => Ok(piece.len()),
-            Err(_) => Err(WriteStop::Memory),
+            Err(_) => {
+                self.shortages = self.shortages.saturating_add(1);
+                Err(WriteStop::Memory)
+            }
         }
     }
 }

@@ -23,7 +23,7 @@ pub enum OpenStop {
 pub enum WriteStop {
     /// The device failed, and counted it.
     Failed,
-    /// There was no memory for the call. No count rises.
+    /// There was no memory for the call. The count of faults stays, and that of shortages rises.
     Memory,
 }
 
@@ -74,6 +74,9 @@ pub trait Sink {
     /// How many calls of this device failed.
     ghost faults: { Self → ℕ };
 
+    /// How many calls of this device found no memory.
+    ghost shortages: { Self → ℕ };
+
     /// All else, which no write changes.
     ghost Rest: { Type 0 };
 
@@ -86,5 +89,6 @@ pub trait Sink {
         ensures bytes { WriteAppends (written self.old) (written self.new) result piece.now }
         ensures rest { rest self.new ≡ rest self.old }
         ensures cause { HasCause WriteStop.Failed (faults self.old) (faults self.new) result }
-        ensures memory { IsErrOf result WriteStop.Memory → faults self.new ≡ faults self.old };
+        ensures memory { IsErrOf result WriteStop.Memory → faults self.new ≡ faults self.old }
+        ensures shortage { HasCause WriteStop.Memory (shortages self.old) (shortages self.new) result };
 }

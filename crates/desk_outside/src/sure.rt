@@ -87,14 +87,15 @@ impl Files for SureFiles {
 #[derive(Drop)]
 pub struct SureSink {
     written: Vec<u8>,
+    shortages: u64,
 }
 
 impl Model for SureSink {
-    ghost use Rattle.std.specs.Prelude.{List, ℕ};
+    ghost use Rattle.desk_outside.specs.Memory.{SureSinkView};
 
-    ghost Value = { List ℕ };
+    ghost Value = { SureSinkView };
 
-    ghost view = { λ s. s.written.items };
+    ghost view = { λ s. record { written = s.written.items; shortages = s.shortages } };
 }
 
 impl SureSink {
@@ -102,16 +103,17 @@ impl SureSink {
 
     /// Nothing is written yet.
     pub fn new(alloc: Global) -> SureSink
-        ensures { result ≡ [] }
+        ensures { result ≡ record { written = []; shortages = 0 } }
     {
         SureSink {
             written: Vec::new(alloc),
+            shortages: 0,
         }
     }
 
     /// What was written.
     pub fn bytes(&self) -> &[u8]
-        ensures { result.now ≡ self.now }
+        ensures { result.now ≡ self.now.written }
     {
         self.written.as_slice()
     }
@@ -123,9 +125,11 @@ impl Sink for SureSink {
     ghost use Rattle.desk_outside.specs.Causes.{HasCause};
     ghost use Rattle.desk_outside.specs.Devices.{WritesSome};
 
-    ghost written = { λ s. Some s };
+    ghost written = { λ s. Some s.written };
 
     ghost faults = { λ _. 0 };
+
+    ghost shortages = { λ s. s.shortages };
 
     ghost Rest = { Unit {0} };
 
@@ -133,8 +137,9 @@ impl Sink for SureSink {
 
     fn write(&mut self, piece: &[u8]) -> Result<usize, WriteStop>
         ensures bound { WritesSome result piece.now }
-        ensures bytes { WriteAppends (Some self.old) (Some self.new) result piece.now }
+        ensures bytes { WriteAppends (Some self.old.written) (Some self.new.written) result piece.now }
         ensures cause { HasCause WriteStop.Failed 0 0 result }
+        ensures shortage { HasCause WriteStop.Memory self.old.shortages self.new.shortages result }
 
         // It takes whole pieces, and never fails.
         ensures all { IfOk result (λ count. count ≡ length piece.now) }
@@ -142,7 +147,10 @@ impl Sink for SureSink {
     {
         match self.written.extend_from_slice(piece) {
             Ok(()) => Ok(piece.len()),
-            Err(_) => Err(WriteStop::Memory),
+            Err(_) => {
+                self.shortages = self.shortages.saturating_add(1);
+                Err(WriteStop::Memory)
+            }
         }
     }
 }

@@ -1,2 +1,3 @@
-mod Fronts
-mod Whole
+mod Answering
+mod Lines
+mod Checking

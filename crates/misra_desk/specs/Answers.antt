@@ -1,10 +1,8 @@
--- What is written, and with which status the program ends.
+-- What `check` owes to a text: the bytes of its answer, and the status that goes with them.
 use Rattle.std.specs.Prelude.{◌≡◌, ◌⊎◌, ℕ, List, [], ◌∷◌, ◌++◌, take, codes}
 use Rattle.misra_base.specs.declared.finding.Finding.{Finding}
 use Rattle.misra_base.specs.declared.refusal.Refusal.{Refusal}
 use Rattle.misra_base.specs.Lines.{report_bytes, refusal_line}
-use Rattle.std.specs.declared.option.Option.{Option}
-use Rattle.std.specs.Io.KnownBytes.{Appends}
 use Rattle.analysis.specs.Form.{Program}
 use Rattle.analysis.specs.Faults.{IsSupportedAs, IsFirstFault}
 use Rattle.analysis.specs.Findings.{judged, findings_of}
@@ -32,17 +30,9 @@ pub record IsRefusal (text bytes : List ℕ) (status : ℕ) : Type 0 where
 abbrev pub IsAnswer : List ℕ → List ℕ → ℕ → Type 0
 IsAnswer text bytes status = IsReport text bytes status ⊎ IsRefusal text bytes status
 
--- the whole answer was written
-abbrev pub WritesAnswer : List ℕ → ℕ → Option (List ℕ) → Option (List ℕ) → Type 0
-WritesAnswer text status old new = (bytes : List ℕ) × IsAnswer text bytes status × Appends old new bytes
-
 -- a front of the answer to a text: nothing, or its first bytes
 abbrev pub IsFront : List ℕ → List ℕ → Type 0
 IsFront text front = (front ≡ []) ⊎ ((bytes : List ℕ) × (status n : ℕ) × IsAnswer text bytes status × (front ≡ take n bytes))
-
--- a front of the answer was written, and then a front of this line
-abbrev pub WritesFront : List ℕ → List ℕ → Option (List ℕ) → Option (List ℕ) → Type 0
-WritesFront text line old new = (front : List ℕ) × (n : ℕ) × IsFront text front × Appends old new (front ++ take n line)
 
 abbrev pub usage_line : List ℕ
 usage_line = codes "usage: check FILE, plan FILE PROJECT, summary PROJECT, serve COUNT, demo NUMBER" ++ 10 ∷ []

@@ -6,4 +6,4 @@ use Rattle.c_lexer.proofs.identifiers.is_reserved.Goals as goal
 pub returns : goal.returns
 unfolding is_reserved
 returns c =
-    c.is_some.ensures ∙ ap is_some c.find_bytes.ensures.number ∙ ap (λ rows. is_some (number_in rows c.args.word.now)) c.class_table.ensures
+    c.is_some.ensures ∙ ap is_some c.find_bytes.ensures.number ∙ ap (λ rows. is_some (number_in rows c.args.word.now)) c.requires

@@ -1,0 +1,4 @@
+pub mod Choosing
+pub mod Expanding
+pub mod Moving
+pub mod Standing

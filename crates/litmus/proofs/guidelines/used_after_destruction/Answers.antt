@@ -1,0 +1,14 @@
+use Rattle.std.proofs.Common.{refl}
+use Rattle.std.specs.Prelude.{[], ◌∷◌}
+use Rattle.c_program.specs.Values.{Static}
+use Rattle.c_program.specs.Requests.{Locks}
+use Rattle.c_program.proofs.Build.{computes}
+use Rattle.litmus.specs.Pieces.{goes, answers}
+use Rattle.litmus.specs.Guidelines.{lock_after_destroy}
+use Rattle.litmus.proofs.Plain.{plain}
+use Rattle.litmus.proofs.Kept.{keeps_15}
+use Rattle.litmus.proofs.guidelines.used_after_destruction.Goals as goal
+
+pub returns : goal.returns
+unfolding computes
+returns c = record { is_well_formed = plain _ refl; is_run = (((tt, tt), tt), tt); breaks = (Locks (record { root = Static 0; path = [] }), refl, refl); not_before = keeps_15 lock_after_destroy (goes 0 ∷ answers 0 0 ∷ []) ((tt, tt), tt) }

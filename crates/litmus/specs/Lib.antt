@@ -1,0 +1,5 @@
+pub mod Pieces
+pub mod Statements
+pub mod Guidelines
+pub mod Undefined
+pub mod Runs
