@@ -1,4 +1,0 @@
-pub mod Library
-pub mod Spelling
-pub mod Typedefs
-pub mod Recalls
