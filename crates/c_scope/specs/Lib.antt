@@ -1,0 +1,4 @@
+pub mod Library
+pub mod Spelling
+pub mod Typedefs
+pub mod Recalls
