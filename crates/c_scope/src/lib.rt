@@ -2,8 +2,10 @@
 #![tactic(auto)]
 
 mod library;
+mod scopes;
 mod spelled;
 mod spelling;
 mod typedefs;
 
+pub use scopes::{Binding, Identifier};
 pub use spelled::{Class, Facts, Spelled, Spot};

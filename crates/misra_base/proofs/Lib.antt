@@ -1,3 +1,1 @@
-pub mod BitLemmas
 mod KeyLemmas
-pub mod WordLemmas
