@@ -1,8 +1,7 @@
 -- What is filled behind the first part of a pattern.
-use Rattle.std.proofs.Common.{◌≡◌, ◌≢◌, ℕ, suc, eqb, ◌+◌, ◌<◌, ◌≤◌, Bool, true, false, List, [], ◌∷◌, ◌++◌, length, get_or, take, drop, Option, Some, None, MatchOption, refl, sym, ap, ◌∙◌, subst, arith, codes, length-drop}
+use Rattle.std.proofs.Common.{◌≡◌, ◌≢◌, ℕ, eqb, ◌<◌, true, false, List, [], ◌∷◌, ◌++◌, length, get_or, take, drop, Option, Some, None, MatchOption, refl, sym, ap, ◌∙◌, subst, arith, codes}
 use Rattle.std.specs.Option.{option_map_or}
-use Rattle.std.specs.Str.{bytes_eq}
-use Rattle.std.proofs.lemmas.Bool.{cond-true, cond-false, ne_eqb}
+use Rattle.std.proofs.lemmas.Bool.{cond-false, ne_eqb}
 use Rattle.std.proofs.lemmas.Slice.Eq.{bytes_eq-Decides}
 use Rattle.compliance_core.specs.Patterns.{after_byte, after_index, begins_with_any, filled_past, is_filled}
 
@@ -17,7 +16,7 @@ split_front (a ∷ []) = refl
 split_front (a ∷ b ∷ []) = refl
 split_front (a ∷ b ∷ c ∷ xs) = refl
 
-any_shape : (pattern : List ℕ) → begins_with_any pattern ≡ true → pattern ≡ codes "[*]" ++ drop 3 pattern
+pub any_shape : (pattern : List ℕ) → begins_with_any pattern ≡ true → pattern ≡ codes "[*]" ++ drop 3 pattern
 any_shape pattern h =
     let front : take 3 pattern ≡ codes "[*]" = (bytes_eq-Decides (take 3 pattern) (codes "[*]")).0 h in
     sym (split_front pattern) ∙ ap (λ xs. xs ++ drop 3 pattern) front

@@ -1,5 +1,5 @@
 -- Levels of compliance, the guideline compliance summary and the claim, after MISRA Compliance:2020.
-use Rattle.std.specs.Prelude.{ℕ, Bool, true, false, not, ◌&&◌, ◌||◌, ◌==◌, if◌then◌else◌, List, [], ◌∷◌, map, count_by, Option}
+use Rattle.std.specs.Prelude.{ℕ, Bool, true, false, not, ◌&&◌, ◌==◌, if◌then◌else◌, List, map, count_by, Option}
 use Rattle.std.specs.List.{find}
 use Rattle.std.specs.Option.{option_map}
 use Rattle.misra_base.specs.Guidelines.{same_guideline, all_guidelines}
@@ -14,6 +14,10 @@ use Rattle.misra_base.specs.declared.summary.Level.{Level}
 use Rattle.misra_base.specs.declared.summary.Level.TheVariants as levels
 use Rattle.compliance_core.specs.Categories.{revised_category}
 use Rattle.compliance_core.specs.Covers.{is_deviated}
+
+-- how many findings the guideline has
+abbrev pub count_against : Guideline → List Finding → ℕ
+count_against g findings = count_by (λ f. same_guideline f.guideline g) findings
 
 -- the findings of the guideline that some deviation covers, and those that none covers
 unfoldable pub deviated_of : Plan → List Deviation → List Finding → Guideline → ℕ
