@@ -512,7 +512,7 @@ enumeration_body-returns-clause-reads t c =
     record {
       behind = any T.LeftBrace ∷ spelled.enumerators (enumerators_of (map enumerator_view c.loop-after.enumerators.items)) ++ spelled.trailing (is_trailing c.loop-after.after) ++ at T.RightBrace c.in_ok-close.close ∷ [];
       is = ap spelled.specifier c.enum_declaration_of.ensures;
-      reads = trailing_read c.loop-after.after (spelled.enumerators (enumerators_of (map enumerator_view c.loop-after.enumerators.items))) c.loop-after-test.false c.loop-after.invariant.reads c.loop-after.invariant.same c.in_ok-close.ensures.reads;
+      reads = trailing_read c.loop-after.after (any T.LeftBrace) (spelled.enumerators (enumerators_of (map enumerator_view c.loop-after.enumerators.items))) c.loop-after-test.false c.loop-after.invariant.reads c.loop-after.invariant.same c.in_ok-close.ensures.reads;
     }
 
 pub enumeration_body-returns-clause-grouped : goal.enumeration_body-returns-clause-grouped
