@@ -71,3 +71,14 @@ behind_first (x ∷ xs) = refl
 pub drop_two : (xs : List ℕ) → drop 1 (drop 1 xs) ≡ drop 2 xs
 drop_two [] = refl
 drop_two (x ∷ xs) = refl
+
+pub drop_three : (xs : List ℕ) → drop 1 (drop 1 (drop 1 xs)) ≡ drop 3 xs
+drop_three [] = refl
+drop_three (x ∷ []) = refl
+drop_three (x ∷ (y ∷ xs)) = refl
+
+pub behind_three : (xs : List ℕ) → drop 3 (take 4 xs) ≡ take 1 (drop 3 xs)
+behind_three [] = refl
+behind_three (x ∷ []) = refl
+behind_three (x ∷ (y ∷ [])) = refl
+behind_three (x ∷ (y ∷ (z ∷ xs))) = refl

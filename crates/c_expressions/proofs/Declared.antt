@@ -1,15 +1,17 @@
 -- Lists of objects and of their initializers that grow at their end.
-use Rattle.std.proofs.Common.{◌≡◌, ◌∙◌, ◌<◌, List, [], ◌∷◌, ◌++◌, map, length, refl, sym, ap, append_assoc, append-nil, arith}
+use Rattle.std.proofs.Common.{◌≡◌, ◌∙◌, ◌<◌, List, [], ◌∷◌, ◌++◌, map, length, Option, refl, sym, ap, append_assoc, append-nil, arith}
 use Rattle.c_lexer.specs.declared.token_class.TokenClass.TheVariants as T
 use Rattle.c_tree.specs.declared.declaration.Initializer.{Initializer}
+use Rattle.c_tree.specs.declared.expression.Word.{Word}
+use Rattle.c_tree.specs.Expressions.{DeclaratorData}
 use Rattle.c_tree.specs.Statements
 use Rattle.c_tree.specs.StatementViews.{initializer_view, initializers_of}
 use Rattle.c_reader.specs.GroupedStatements.{AreGroupedInitializers, AreGroupedObjects, HasInitializer, IsGroupedInitializer}
-use Rattle.c_reader.specs.Pieces.{Piece, any}
+use Rattle.c_reader.specs.Pieces.{Piece, any, word}
 use Rattle.c_reader.specs.SpelledExpressions.{declarator}
 use Rattle.c_reader.specs.SpelledStatements.{initialization, initializer, initializers, more_initializers, more_objects, objects}
 use Rattle.c_reader.specs.States.{State, Reads, ReadsBehind}
-use Rattle.c_reader.proofs.Moving.{followed, into}
+use Rattle.c_reader.proofs.Moving.{followed, into, up_to}
 use Rattle.c_expressions.proofs.Growing.{grown, some_seen}
 
 -- ---- what was read in part before
@@ -21,7 +23,19 @@ pub behind_followed : {front whole others : List Piece} {a b c : State} → Read
 behind_followed {front} {whole} {others} {a} {b} {c} r same s =
     record { behind = r.behind ++ others; is = ap (λ (ps : List Piece). ps ++ others) r.is ∙ append_assoc front r.behind others; reads = followed r.reads same s }
 
+pub behind_up_to : {front whole : List Piece} {a b c : State} → ReadsBehind front whole a b → c.rest ≡ b.rest → ReadsBehind front whole a c
+behind_up_to {front} {whole} {a} {b} {c} r rest = record { behind = r.behind; is = r.is; reads = up_to r.reads rest }
+
 -- ---- objects
+
+abbrev pub one_object : Option Statements.InitializationData → DeclaratorData → Statements.InitDeclaratorData
+one_object value d = record { declarator = d; initialization = value }
+
+-- what stands behind the name of one object
+pub object_behind : (stars : List Piece) (name : Word) (bounds value : List Piece)
+    → (stars ++ word T.Identifier name ∷ bounds) ++ value ≡ (stars ++ word T.Identifier name ∷ []) ++ (bounds ++ value)
+object_behind stars name bounds value =
+    append_assoc stars (word T.Identifier name ∷ bounds) value ∙ sym (append_assoc stars (word T.Identifier name ∷ []) (bounds ++ value))
 
 more_objects_push : (ds : List Statements.InitDeclaratorData) (d : Statements.InitDeclaratorData) → more_objects ds ++ more_objects (d ∷ []) ≡ more_objects (ds ++ d ∷ [])
 more_objects_push [] d = refl
