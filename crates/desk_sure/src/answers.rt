@@ -20,8 +20,8 @@ fn joined(alloc: Global, word: &str, bytes: &[u8]) -> Result<Vec<u8>, AllocError
 }
 
 /// The reply, or the number of the refusal and what stands against the command.
-pub fn answer(alloc: Global, result: &Result<Reply, DeskStop>) -> Result<Vec<u8>, AllocError> {
-    match result {
+pub fn answer(alloc: Global, given: &Result<Reply, DeskStop>) -> Result<Vec<u8>, AllocError> {
+    match given {
         Ok(reply) => reply_words(alloc, reply),
         Err(stop) => stop_words(alloc, stop),
     }
