@@ -1,4 +1,6 @@
-pub mod Fitting
-pub mod Reading
-pub mod Spelling
+pub mod Codings
+pub mod Commands
+pub mod Parts
+pub mod Rows
+pub mod Taking
 pub mod Variants

@@ -1,5 +1,5 @@
 -- The places of variants, from 0.
-use Rattle.std.specs.Prelude.{ℕ, zero, suc, List, [], ◌∷◌, Option, Some, None}
+use Rattle.std.specs.Prelude.{ℕ, List, [], ◌∷◌}
 use Rattle.misra_base.specs.declared.category.Category.{Category}
 use Rattle.misra_base.specs.declared.category.Category.TheVariants as categories
 use Rattle.misra_base.specs.declared.deviation.Form.{Form}
@@ -8,12 +8,6 @@ use Rattle.misra_base.specs.declared.deviation.Status.{Status}
 use Rattle.misra_base.specs.declared.deviation.Status.TheVariants as statuses
 use Rattle.misra_base.specs.declared.kind.Kind.{Kind}
 use Rattle.misra_base.specs.declared.kind.Kind.TheVariants as kinds
-
--- the item at a place
-abbrev pub item_at : {X : Type 0} → List X → ℕ → Option X
-item_at [] n = None
-item_at (x ∷ xs) zero = Some x
-item_at (x ∷ xs) (suc n) = item_at xs n
 
 abbrev pub category_number : Category → ℕ
 category_number categories.Mandatory = 0
@@ -66,4 +60,7 @@ kind_number kinds.Wait = 21
 kind_number kinds.Dependent = 22
 
 abbrev pub kind_list : List Kind
-kind_list = kinds.Race ∷ kinds.Cycle ∷ kinds.Outside ∷ kinds.Repeated ∷ kinds.Break ∷ kinds.Return ∷ kinds.Unused ∷ kinds.Parameter ∷ kinds.Order ∷ kinds.Kind ∷ kinds.Again ∷ kinds.Access ∷ kinds.Automatic ∷ kinds.Thread ∷ kinds.Before ∷ kinds.Second ∷ kinds.Dead ∷ kinds.Busy ∷ kinds.End ∷ kinds.Destroyed ∷ kinds.Unlock ∷ kinds.Wait ∷ kinds.Dependent ∷ []
+kind_list =
+    kinds.Race ∷ kinds.Cycle ∷ kinds.Outside ∷ kinds.Repeated ∷ kinds.Break ∷ kinds.Return ∷ kinds.Unused ∷ kinds.Parameter ∷ kinds.Order
+    ∷ kinds.Kind ∷ kinds.Again ∷ kinds.Access ∷ kinds.Automatic ∷ kinds.Thread ∷ kinds.Before ∷ kinds.Second ∷ kinds.Dead ∷ kinds.Busy
+    ∷ kinds.End ∷ kinds.Destroyed ∷ kinds.Unlock ∷ kinds.Wait ∷ kinds.Dependent ∷ []
