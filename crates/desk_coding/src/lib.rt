@@ -13,3 +13,6 @@ mod taking_parts;
 mod taking_rows;
 
 pub use coding::{put_change, put_kept, take_change, take_kept};
+
+#[cfg(test)]
+mod tests;
