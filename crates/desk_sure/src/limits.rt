@@ -1,10 +1,11 @@
 //! The limits of refusal 14.
 use crate::answers::answer;
-use crate::asks::{caller, name};
+use crate::asks::{caller, creations, name};
+use crate::first_rows::{first_deviations, keeper_with, kept_rows};
 use desk_core::act;
 use desk_memory::SureKeeper;
-use desk_tables::Command;
-use misra_base::{Guideline, Name, NameList};
+use desk_tables::{Command, Keeper};
+use misra_base::{Guideline, Name, NameList, Report};
 use std::alloc::{AllocError, Global};
 use std::test::Fail;
 
@@ -31,16 +32,40 @@ fn permitting(alloc: Global, number: u32) -> Result<Command, AllocError> {
 }
 
 /// What the desk answers in words. The request's id is the command's number.
-fn answered(
+fn answered<K: Keeper>(
     alloc: Global,
-    keeper: &mut SureKeeper,
+    keeper: &mut K,
     asks: &str,
     number: u32,
     command: &Command,
 ) -> Result<Vec<u8>, AllocError> {
     let asks = caller(alloc, asks)?;
     let request = numbered(alloc, number)?;
-    answer(alloc, &act(alloc, keeper, &asks, Some(&request), command, None))
+    let found = creations(alloc)?;
+    let report = Report { found };
+    let handed = match command {
+        Command::Submit { .. } => Some(&report),
+        _ => None,
+    };
+    answer(alloc, &act(alloc, keeper, &asks, Some(&request), command, handed))
+}
+
+fn submission(alloc: Global) -> Result<Command, AllocError> {
+    Ok(Command::Submit {
+        project: name(alloc, "p")?,
+        length: 100,
+    })
+}
+
+fn raising(alloc: Global) -> Result<Command, AllocError> {
+    Ok(Command::Raise {
+        project: name(alloc, "p")?,
+        guideline: Guideline::D5_1,
+        function: name(alloc, "*")?,
+        object: name(alloc, "x")?,
+        reason: name(alloc, "why")?,
+        permit: None,
+    })
 }
 
 #[test]
@@ -72,5 +97,63 @@ fn a_caller_makes_1024_permits(rt: HostRuntime) -> Result<(), Fail> {
     assert_eq!(rt; words.as_slice(), b"14 1024".as_slice());
     let words = answered(alloc, &mut keeper, "ben", 1025, &permitting(alloc, 1025)?)?;
     assert_eq!(rt; words.as_slice(), b"made p1025".as_slice());
+    Ok(())
+}
+
+#[test]
+fn a_project_has_1000000_revisions(rt: HostRuntime) -> Result<(), Fail> {
+    let alloc = rt.alloc();
+    let mut keeper = keeper_with(alloc, 999_999, first_deviations(alloc, 0)?, kept_rows(alloc, 0)?)?;
+    let words = answered(alloc, &mut keeper, "ann", 1, &submission(alloc)?)?;
+    assert_eq!(rt; words.as_slice(), b"revision 1000000 5".as_slice());
+    let words = answered(alloc, &mut keeper, "ann", 2, &submission(alloc)?)?;
+    assert_eq!(rt; words.as_slice(), b"14 1000000".as_slice());
+    Ok(())
+}
+
+#[test]
+fn a_project_has_10000_deviations(rt: HostRuntime) -> Result<(), Fail> {
+    let alloc = rt.alloc();
+    let mut keeper = keeper_with(alloc, 1, first_deviations(alloc, 9_999)?, kept_rows(alloc, 0)?)?;
+    let words = answered(alloc, &mut keeper, "ann", 1, &raising(alloc)?)?;
+    assert_eq!(rt; words.as_slice(), b"raised 10000".as_slice());
+    let words = answered(alloc, &mut keeper, "ann", 2, &raising(alloc)?)?;
+    assert_eq!(rt; words.as_slice(), b"14 10000".as_slice());
+    Ok(())
+}
+
+/// Where a command would pass several limits the first answers.
+#[test]
+fn a_caller_has_100000_kept_replies(rt: HostRuntime) -> Result<(), Fail> {
+    let alloc = rt.alloc();
+    let kept = kept_rows(alloc, 99_999)?;
+    let mut keeper = keeper_with(alloc, 999_999, first_deviations(alloc, 10_000)?, kept)?;
+    let words = answered(alloc, &mut keeper, "ann", 1, &submission(alloc)?)?;
+    assert_eq!(rt; words.as_slice(), b"revision 1000000 5".as_slice());
+    let words = answered(alloc, &mut keeper, "ann", 2, &making(alloc, 1)?)?;
+    assert_eq!(rt; words.as_slice(), b"14 100000".as_slice());
+    let words = answered(alloc, &mut keeper, "ann", 2, &submission(alloc)?)?;
+    assert_eq!(rt; words.as_slice(), b"14 1000000".as_slice());
+    let words = answered(alloc, &mut keeper, "ann", 2, &raising(alloc)?)?;
+    assert_eq!(rt; words.as_slice(), b"14 10000".as_slice());
+    let words = answered(alloc, &mut keeper, "ben", 2, &making(alloc, 1)?)?;
+    assert_eq!(rt; words.as_slice(), b"made p1".as_slice());
+    Ok(())
+}
+
+/// A deviation from before deviations had a form covers the object of its text, and no element.
+#[test]
+fn an_old_deviation_is_no_pattern(rt: HostRuntime) -> Result<(), Fail> {
+    let alloc = rt.alloc();
+    let mut keeper = keeper_with(alloc, 0, first_deviations(alloc, 1)?, kept_rows(alloc, 0)?)?;
+    let words = answered(alloc, &mut keeper, "ann", 1, &submission(alloc)?)?;
+    assert_eq!(rt; words.as_slice(), b"revision 1 5".as_slice());
+    let asks = caller(alloc, "ann")?;
+    let summary = Command::ReadSummary {
+        project: name(alloc, "p")?,
+    };
+    let words = answer(alloc, &act(alloc, &mut keeper, &asks, None, &summary, None))?;
+    let expected: &[u8] = b"summary 1 D5.3 Required Violations 1 0 R22.11 Required Violations 4 0";
+    assert_eq!(rt; words.as_slice(), expected);
     Ok(())
 }
