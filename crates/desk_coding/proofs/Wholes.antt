@@ -13,7 +13,7 @@ whole_again coding exact x fits =
     let front : coding.front (coding.written x) ≡ Some (x, []) = ap coding.front (sym (append-nil (coding.written x))) ∙ exact.again x [] fits in
     rw front refl
 
-whole_taken : {X : Type 0} (coding : Coding X) → Exact coding → (bytes : List ℕ) (x : X) → IsBytes bytes → whole coding bytes ≡ Some x
+pub whole_taken : {X : Type 0} (coding : Coding X) → Exact coding → (bytes : List ℕ) (x : X) → IsBytes bytes → whole coding bytes ≡ Some x
     → (coding.fits x ≡ true) × (bytes ≡ coding.written x)
 whole_taken coding exact bytes x is e =
     let m = then_some ended (coding.front bytes) x e in

@@ -14,7 +14,8 @@ use std::alloc::{AllocError, Global};
 /// The coding of the row, whose reply is `Made`, `Revision`, `Raised` or `Done`. Each row has one.
 pub fn put_kept(alloc: Global, row: &KeptRow) -> Result<Vec<u8>, AllocError>
     requires { is_keepable row.now.reply ≡ true }
-    ensures { IfOk result (λ bytes. bytes.items ≡ rows.kept.written row.now) }
+    ensures written { IfOk result (λ bytes. bytes.items ≡ rows.kept.written row.now) }
+    ensures fits { IfOk result (λ _. rows.kept.fits row.now ≡ true) }
 {
     let mut bytes = Vec::new(alloc);
     put_row(&mut bytes, row)?;
@@ -47,7 +48,8 @@ fn kept_in(alloc: Global, bytes: &[u8]) -> Result<KeptRow, TakeStop>
 /// The coding of the change, whose kept reply is `Made`, `Revision`, `Raised` or `Done`. Each change has one.
 pub fn put_change(alloc: Global, change: &Change) -> Result<Vec<u8>, AllocError>
     requires { keeps_rightly change.now.kept ≡ true }
-    ensures { IfOk result (λ bytes. bytes.items ≡ rows.change.written change.now) }
+    ensures written { IfOk result (λ bytes. bytes.items ≡ rows.change.written change.now) }
+    ensures fits { IfOk result (λ _. rows.change.fits change.now ≡ true) }
 {
     let mut bytes = Vec::new(alloc);
     put_all(&mut bytes, change)?;

@@ -2,6 +2,7 @@
 #![tactic(auto)]
 
 mod coding;
+mod laws;
 mod numbers;
 mod putting;
 mod putting_commands;
@@ -13,6 +14,7 @@ mod taking_parts;
 mod taking_rows;
 
 pub use coding::{put_change, put_kept, take_change, take_kept};
+pub use laws::{what_is_put_is_taken, what_is_taken_was_put};
 
 #[cfg(test)]
 mod tests;

@@ -1,5 +1,5 @@
 //! The codings of commands, at the end of what was written.
-ghost use Rattle.std.specs.Prelude.{◌≡◌, ◌++◌, ◌∷◌, OnOk};
+ghost use Rattle.std.specs.Prelude.{◌≡◌, ◌++◌, ◌∷◌, true, OnOk};
 ghost use Rattle.desk_coding.specs.Codings as codings;
 ghost use Rattle.desk_coding.specs.Commands as commands;
 
@@ -13,7 +13,8 @@ use std::alloc::AllocError;
 /// The number of the variant, and its fields.
 #[tactic(auto, unfolding(crate::specs::Commands::command))]
 pub fn put_command(out: &mut Vec<u8>, command: &Command) -> Result<(), AllocError>
-    ensures { OnOk result (out.new.items ≡ out.old.items ++ commands.command.written command.now) }
+    ensures written { OnOk result (out.new.items ≡ out.old.items ++ commands.command.written command.now) }
+    ensures fits { OnOk result (commands.command.fits command.now ≡ true) }
 {
     match command {
         Command::MakeProject { name, members } => put_making(out, name, members),
@@ -48,7 +49,8 @@ pub fn put_command(out: &mut Vec<u8>, command: &Command) -> Result<(), AllocErro
 
 #[tactic(auto, unfolding(crate::specs::Commands::making))]
 fn put_making(out: &mut Vec<u8>, name: &Name, members: &NameList) -> Result<(), AllocError>
-    ensures { OnOk result (out.new.items ≡ out.old.items ++ 0 ∷ commands.making.written (name.now, members.now)) }
+    ensures written { OnOk result (out.new.items ≡ out.old.items ++ 0 ∷ commands.making.written (name.now, members.now)) }
+    ensures fits { OnOk result (commands.making.fits (name.now, members.now) ≡ true) }
 {
     out.push(0)?;
     put_text(out, name)?;
@@ -62,7 +64,8 @@ fn put_numbered(
     project: &Name,
     number: u32,
 ) -> Result<(), AllocError>
-    ensures { OnOk result (out.new.items ≡ out.old.items ++ variant ∷ commands.numbered.written (project.now, number)) }
+    ensures written { OnOk result (out.new.items ≡ out.old.items ++ variant ∷ commands.numbered.written (project.now, number)) }
+    ensures fits { OnOk result (commands.numbered.fits (project.now, number) ≡ true) }
 {
     out.push(variant)?;
     put_text(out, project)?;
@@ -79,7 +82,8 @@ fn put_raising(
     reason: &Name,
     permit: &Option<Name>,
 ) -> Result<(), AllocError>
-    ensures { OnOk result (out.new.items ≡ out.old.items ++ 2 ∷ commands.raising.written (project.now, (guideline, (function.now, (object.now, (reason.now, permit.now)))))) }
+    ensures written { OnOk result (out.new.items ≡ out.old.items ++ 2 ∷ commands.raising.written (project.now, (guideline, (function.now, (object.now, (reason.now, permit.now)))))) }
+    ensures fits { OnOk result (commands.raising.fits (project.now, (guideline, (function.now, (object.now, (reason.now, permit.now))))) ≡ true) }
 {
     out.push(2)?;
     put_text(out, project)?;
@@ -97,7 +101,8 @@ fn put_permitting(
     guideline: Guideline,
     reason: &Name,
 ) -> Result<(), AllocError>
-    ensures { OnOk result (out.new.items ≡ out.old.items ++ 6 ∷ commands.permitting.written (name.now, (guideline, reason.now))) }
+    ensures written { OnOk result (out.new.items ≡ out.old.items ++ 6 ∷ commands.permitting.written (name.now, (guideline, reason.now))) }
+    ensures fits { OnOk result (commands.permitting.fits (name.now, (guideline, reason.now)) ≡ true) }
 {
     out.push(6)?;
     put_text(out, name)?;
@@ -112,7 +117,8 @@ fn put_recategorising(
     guideline: Guideline,
     category: Category,
 ) -> Result<(), AllocError>
-    ensures { OnOk result (out.new.items ≡ out.old.items ++ 7 ∷ commands.recategorising.written (project.now, (guideline, category))) }
+    ensures written { OnOk result (out.new.items ≡ out.old.items ++ 7 ∷ commands.recategorising.written (project.now, (guideline, category))) }
+    ensures fits { OnOk result (commands.recategorising.fits (project.now, (guideline, category)) ≡ true) }
 {
     out.push(7)?;
     put_text(out, project)?;
@@ -122,7 +128,8 @@ fn put_recategorising(
 
 #[tactic(auto, unfolding(crate::specs::Commands::planning))]
 fn put_planning(out: &mut Vec<u8>, project: &Name, entries: &EntryList) -> Result<(), AllocError>
-    ensures { OnOk result (out.new.items ≡ out.old.items ++ 8 ∷ commands.planning.written (project.now, entries.now)) }
+    ensures written { OnOk result (out.new.items ≡ out.old.items ++ 8 ∷ commands.planning.written (project.now, entries.now)) }
+    ensures fits { OnOk result (commands.planning.fits (project.now, entries.now) ≡ true) }
 {
     out.push(8)?;
     put_text(out, project)?;
@@ -130,7 +137,8 @@ fn put_planning(out: &mut Vec<u8>, project: &Name, entries: &EntryList) -> Resul
 }
 
 fn put_reading(out: &mut Vec<u8>, variant: u8, project: &Name) -> Result<(), AllocError>
-    ensures { OnOk result (out.new.items ≡ out.old.items ++ variant ∷ codings.text.written project.now) }
+    ensures written { OnOk result (out.new.items ≡ out.old.items ++ variant ∷ codings.text.written project.now) }
+    ensures fits { OnOk result (codings.text.fits project.now ≡ true) }
 {
     out.push(variant)?;
     put_text(out, project)

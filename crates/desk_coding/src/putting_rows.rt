@@ -16,7 +16,8 @@ use std::alloc::AllocError;
 #[tactic(auto, unfolding(crate::specs::Rows::reply))]
 fn put_reply(out: &mut Vec<u8>, reply: &Reply) -> Result<(), AllocError>
     requires { is_keepable reply.now ≡ true }
-    ensures { OnOk result (out.new.items ≡ out.old.items ++ rows.reply.written reply.now) }
+    ensures written { OnOk result (out.new.items ≡ out.old.items ++ rows.reply.written reply.now) }
+    ensures fits { OnOk result (rows.reply.fits reply.now ≡ true) }
 {
     match reply {
         Reply::Made(name) => {
@@ -35,7 +36,8 @@ fn put_reply(out: &mut Vec<u8>, reply: &Reply) -> Result<(), AllocError>
 
 #[tactic(auto, unfolding(crate::specs::Rows::revision))]
 fn put_revision(out: &mut Vec<u8>, number: u32, findings: u64) -> Result<(), AllocError>
-    ensures { OnOk result (out.new.items ≡ out.old.items ++ 1 ∷ rows.revision.written (number, findings)) }
+    ensures written { OnOk result (out.new.items ≡ out.old.items ++ 1 ∷ rows.revision.written (number, findings)) }
+    ensures fits { OnOk result (rows.revision.fits (number, findings) ≡ true) }
 {
     out.push(1)?;
     put_u32(out, number)?;
@@ -45,7 +47,8 @@ fn put_revision(out: &mut Vec<u8>, number: u32, findings: u64) -> Result<(), All
 #[tactic(auto, unfolding(crate::specs::Rows::kept))]
 pub fn put_row(out: &mut Vec<u8>, row: &KeptRow) -> Result<(), AllocError>
     requires { is_keepable row.now.reply ≡ true }
-    ensures { OnOk result (out.new.items ≡ out.old.items ++ rows.kept.written row.now) }
+    ensures written { OnOk result (out.new.items ≡ out.old.items ++ rows.kept.written row.now) }
+    ensures fits { OnOk result (rows.kept.fits row.now ≡ true) }
 {
     put_text(out, &row.caller)?;
     put_text(out, &row.request)?;
@@ -56,7 +59,8 @@ pub fn put_row(out: &mut Vec<u8>, row: &KeptRow) -> Result<(), AllocError>
 #[tactic(auto, unfolding(crate::specs::Rows::optional_kept))]
 fn put_optional_row(out: &mut Vec<u8>, row: &Option<KeptRow>) -> Result<(), AllocError>
     requires { keeps_rightly row.now ≡ true }
-    ensures { OnOk result (out.new.items ≡ out.old.items ++ rows.optional_kept.written row.now) }
+    ensures written { OnOk result (out.new.items ≡ out.old.items ++ rows.optional_kept.written row.now) }
+    ensures fits { OnOk result (rows.optional_kept.fits row.now ≡ true) }
 {
     match row {
         None => Ok(out.push(0)?),
@@ -69,7 +73,8 @@ fn put_optional_row(out: &mut Vec<u8>, row: &Option<KeptRow>) -> Result<(), Allo
 
 #[tactic(auto, unfolding(crate::specs::Rows::project))]
 fn put_project(out: &mut Vec<u8>, row: &ProjectRow) -> Result<(), AllocError>
-    ensures { OnOk result (out.new.items ≡ out.old.items ++ rows.project.written row.now) }
+    ensures written { OnOk result (out.new.items ≡ out.old.items ++ rows.project.written row.now) }
+    ensures fits { OnOk result (rows.project.fits row.now ≡ true) }
 {
     put_text(out, &row.name)?;
     put_optional_text(out, &row.maker)?;
@@ -80,7 +85,8 @@ fn put_project(out: &mut Vec<u8>, row: &ProjectRow) -> Result<(), AllocError>
 
 #[tactic(auto, unfolding(crate::specs::Rows::write))]
 fn put_write(out: &mut Vec<u8>, write: &Write) -> Result<(), AllocError>
-    ensures { OnOk result (out.new.items ≡ out.old.items ++ rows.write.written write.now) }
+    ensures written { OnOk result (out.new.items ≡ out.old.items ++ rows.write.written write.now) }
+    ensures fits { OnOk result (rows.write.fits write.now ≡ true) }
 {
     match write {
         Write::NewProject(row) => {
@@ -105,7 +111,8 @@ fn put_revising(
     number: u32,
     found: &FindingList,
 ) -> Result<(), AllocError>
-    ensures { OnOk result (out.new.items ≡ out.old.items ++ 1 ∷ rows.revising.written (project.now, (number, found.now))) }
+    ensures written { OnOk result (out.new.items ≡ out.old.items ++ 1 ∷ rows.revising.written (project.now, (number, found.now))) }
+    ensures fits { OnOk result (rows.revising.fits (project.now, (number, found.now)) ≡ true) }
 {
     out.push(1)?;
     put_text(out, project)?;
@@ -120,7 +127,8 @@ fn put_deviating(
     project: &Name,
     deviation: &Deviation,
 ) -> Result<(), AllocError>
-    ensures { OnOk result (out.new.items ≡ out.old.items ++ variant ∷ rows.deviating.written (project.now, deviation.now)) }
+    ensures written { OnOk result (out.new.items ≡ out.old.items ++ variant ∷ rows.deviating.written (project.now, deviation.now)) }
+    ensures fits { OnOk result (rows.deviating.fits (project.now, deviation.now) ≡ true) }
 {
     out.push(variant)?;
     put_text(out, project)?;
@@ -129,7 +137,8 @@ fn put_deviating(
 
 #[tactic(auto, unfolding(crate::specs::Rows::replanning))]
 fn put_replanning(out: &mut Vec<u8>, project: &Name, plan: &Plan) -> Result<(), AllocError>
-    ensures { OnOk result (out.new.items ≡ out.old.items ++ 5 ∷ rows.replanning.written (project.now, plan.now)) }
+    ensures written { OnOk result (out.new.items ≡ out.old.items ++ 5 ∷ rows.replanning.written (project.now, plan.now)) }
+    ensures fits { OnOk result (rows.replanning.fits (project.now, plan.now) ≡ true) }
 {
     out.push(5)?;
     put_text(out, project)?;
@@ -139,7 +148,8 @@ fn put_replanning(out: &mut Vec<u8>, project: &Name, plan: &Plan) -> Result<(), 
 #[tactic(auto, unfolding(crate::specs::Rows::change))]
 pub fn put_all(out: &mut Vec<u8>, change: &Change) -> Result<(), AllocError>
     requires { keeps_rightly change.now.kept ≡ true }
-    ensures { OnOk result (out.new.items ≡ out.old.items ++ rows.change.written change.now) }
+    ensures written { OnOk result (out.new.items ≡ out.old.items ++ rows.change.written change.now) }
+    ensures fits { OnOk result (rows.change.fits change.now ≡ true) }
 {
     put_write(out, &change.write)?;
     put_optional_row(out, &change.kept)
