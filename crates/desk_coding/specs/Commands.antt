@@ -1,5 +1,5 @@
 -- The coding of commands: the byte of the variant, in the order of the commands' table, and its fields.
-use Rattle.std.specs.Prelude.{ℕ, Bool, ◌==◌, if◌then◌else◌, List, [], ◌∷◌, Option, Some, None}
+use Rattle.std.specs.Prelude.{ℕ, Bool, ◌==◌, if◌then◌else◌, List, [], ◌∷◌, Option, None}
 use Rattle.std.specs.Option.{option_map}
 use Rattle.misra_base.specs.declared.category.Category.{Category}
 use Rattle.misra_base.specs.declared.guideline.Guideline.{Guideline}

@@ -4,7 +4,7 @@ use Rattle.misra_base.specs.declared.guideline.Guideline.{Guideline}
 use Rattle.misra_base.specs.declared.deviation.Deviation.{Deviation}
 use Rattle.misra_base.specs.declared.category.Plan.{Plan}
 use Rattle.desk_core.specs.Entries.{Entry, entries_refused, entry_refused, with_all_entries, with_entry}
-use Rattle.std.proofs.Common.{◌≡◌, ◌∙◌, ◌<◌, ◌+◌, ◌⊎◌, inl, inr, ℕ, List, ◌∷◌, map, length, drop, get_or, fold, Result, Ok, Err, Option, Some, None, ap, subst}
+use Rattle.std.proofs.Common.{◌≡◌, ◌∙◌, ◌<◌, ◌+◌, inl, inr, ℕ, List, ◌∷◌, map, length, drop, get_or, fold, Result, Ok, Err, Option, Some, None, ap, subst}
 use Rattle.std.proofs.lemmas.List.{at_drop_more}
 use Rattle.desk_core.specs.declared.stop.DeskStop.{DeskStop}
 use Rattle.desk_tables.specs.declared.change.Write.{Write}

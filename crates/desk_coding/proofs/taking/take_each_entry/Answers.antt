@@ -1,4 +1,3 @@
-use Rattle.std.proofs.Common.{arith}
 use Rattle.std.proofs.lemmas.Result.{err_from_is_err_and}
 use Rattle.desk_coding.specs.Codings.{many_front}
 use Rattle.desk_coding.specs.Parts.{entry}
