@@ -1,0 +1,127 @@
+//! The node that comes first in a statement.
+ghost use Rattle.std.specs.Prelude.{◌≡◌, IfOk, option_to_list};
+ghost use Rattle.control_flow.specs.Layout.{first, first_test};
+ghost use Rattle.control_flow.specs.Listed.{first_of_list, first_of_operands, first_of_rest};
+
+use crate::size::{size, size_in};
+use crate::stop::{BuildStop, plus};
+use c_program::statement::{Condition, Statement};
+
+/// Where control goes from a place, by the numbers of nodes.
+#[derive(Clone, Copy)]
+pub struct Targets {
+    /// The next node.
+    pub here: Option<u32>,
+    /// The one behind a break.
+    pub out: Option<u32>,
+    /// The one behind a continue.
+    pub again: Option<u32>,
+}
+
+/// The node that comes first from the statement on, whose nodes begin with the n-th.
+#[cycle(first)]
+#[tactic(auto, using(crate::proofs::Firsts::firsts))]
+pub fn first_node(statement: &Statement, n: u32, targets: Targets) -> Result<Option<u32>, BuildStop>
+    ensures { IfOk result (λ found. option_to_list found ≡ first statement.now n (option_to_list targets.here) (option_to_list targets.out) (option_to_list targets.again)) }
+{
+    match statement {
+        Statement::Do(_) => Ok(Some(n)),
+        Statement::Block(all) => first_in(all.as_slice(), n, targets),
+        Statement::If(condition, _, _) => {
+            first_tested(condition.get(), n, targets.out, targets.again)
+        }
+        Statement::Loop(a, b) => {
+            let length = size(a.get())?;
+            let place = plus(n, length)?;
+            let inside = Targets {
+                here: None,
+                out: targets.here,
+                again: None,
+            };
+            let second = first_node(b.get(), place, inside)?;
+            let turn = Targets {
+                here: second,
+                out: targets.here,
+                again: second,
+            };
+            first_node(a.get(), n, turn)
+        }
+        Statement::Counted(_, _) => Ok(Some(n)),
+        Statement::Switch(_, clauses) => {
+            if clauses.is_empty() {
+                Ok(None)
+            } else {
+                Ok(Some(n))
+            }
+        }
+        Statement::Break => Ok(targets.out),
+        Statement::Continue => Ok(targets.again),
+    }
+}
+
+/// The node that comes first from some statements on.
+#[cycle(first)]
+#[tactic(auto, using(crate::proofs::Firsts::firsts))]
+pub fn first_in(all: &[Statement], n: u32, targets: Targets) -> Result<Option<u32>, BuildStop>
+    ensures { IfOk result (λ found. option_to_list found ≡ first_of_list all.now n (option_to_list targets.here) (option_to_list targets.out) (option_to_list targets.again)) }
+{
+    let length = size_in(all)?;
+    let mut place = plus(n, length)?;
+    let mut here = targets.here;
+    let mut k = all.len();
+    while k > 0 {
+        k -= 1;
+        let one = &all[k];
+        let length = size(one)?;
+        place -= length;
+        let before = Targets {
+            here,
+            out: targets.out,
+            again: targets.again,
+        };
+        here = first_node(one, place, before)?;
+    }
+    Ok(here)
+}
+
+/// The node that comes first in a condition.
+#[cycle(first)]
+#[tactic(auto, using(crate::proofs::Firsts::firsts))]
+pub fn first_tested(
+    condition: &Condition,
+    n: u32,
+    out: Option<u32>,
+    again: Option<u32>,
+) -> Result<Option<u32>, BuildStop>
+    ensures { IfOk result (λ found. option_to_list found ≡ first_test condition.now n (option_to_list out) (option_to_list again)) }
+{
+    match condition {
+        Condition::Test(_) => Ok(Some(n)),
+        Condition::Not(operand) => first_tested(operand.get(), n, out, again),
+        Condition::And(all) => first_operand(all.as_slice(), n, out, again),
+        Condition::Or(all) => first_operand(all.as_slice(), n, out, again),
+        Condition::After(before, last) => {
+            let length = size(before.get())?;
+            let place = plus(n, length)?;
+            let here = first_tested(last.get(), place, out, again)?;
+            first_node(before.get(), n, Targets { here, out, again })
+        }
+    }
+}
+
+#[cycle(first)]
+#[tactic(auto, using(crate::proofs::Firsts::firsts))]
+fn first_operand(
+    all: &[Condition],
+    n: u32,
+    out: Option<u32>,
+    again: Option<u32>,
+) -> Result<Option<u32>, BuildStop>
+    ensures { IfOk result (λ found. option_to_list found ≡ first_of_operands all.now n (option_to_list out) (option_to_list again)) }
+{
+    if all.is_empty() {
+        Ok(None)
+    } else {
+        first_tested(&all[0], n, out, again)
+    }
+}
