@@ -118,8 +118,8 @@ module _ (calls : List Callees) (old new : Placing) (function : ℕ) (within : f
       | inr n ↦ subst (IsPlaced new) n.1 (look function ∙ get_or-set_same old.placed.items function true false in_marks)
     ];
     one = λ a b f e d. elim (got a f e) [
-      | inl o ↦ elim (got b f d) [ | inl p ↦ is.one a b f o p | inr n ↦ absurd (no_place a f o n.1) ]
-      | inr n ↦ elim (got b f d) [ | inl p ↦ absurd (no_place b f p n.1) | inr m ↦ n.0 ∙ sym m.0 ]
+      | inl o ↦ elim (got b f d) [ inl p ↦ is.one a b f o p | inr n ↦ absurd (no_place a f o n.1) ]
+      | inr n ↦ elim (got b f d) [ inl p ↦ absurd (no_place b f p n.1) | inr m ↦ n.0 ∙ sym m.0 ]
     ];
     inward = λ k f callee e names. elim (got k f e) [
       | inl o ↦ (let i = is.inward k f callee o names in (i.0, i.1, more i.0 callee i.2))

@@ -5,8 +5,8 @@ ghost use Rattle.c_program.specs.Paths.{in_rounds, each_turn, spots_of, spots_of
 ghost use Rattle.control_flow.specs.Labels.{round_of, spot_of};
 ghost use Rattle.program_spots.specs.Listed.{spots_of_list, spots_of_operands, spots_of_turn};
 
-use control_flow::flow::{Round, Spot};
 use c_program::statement::{Condition, Counter, Statement};
+use control_flow::flow::{Round, Spot};
 use std::alloc::{AllocError, Global};
 
 /// Adds an action in its rounds.

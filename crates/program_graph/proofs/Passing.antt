@@ -1,0 +1,57 @@
+-- A pass goes over one more function.
+use Rattle.std.proofs.Common.{◌≡◌, refl, sym, ap, ◌∙◌, subst, ℕ, zero, suc, ◌+◌, List, [], ◌∷◌, ◌++◌, append-nil, append_assoc, map, Some, slice_get, arith}
+use Rattle.c_program.specs.declared.program.Program.{Program}
+use Rattle.c_program.specs.Syntax.{body_at}
+use Rattle.c_program.specs.Paths.{spots_of}
+use Rattle.flow_points.specs.declared.graph.Function.{Function}
+use Rattle.control_flow.specs.Layout.{size_of, nexts_of}
+use Rattle.control_flow.specs.Made.{text_spots, nexts_from, IsOf, AreOf}
+use Rattle.program_graph.specs.Passes.{total}
+
+module _ (program : Program) where
+  pub total_more : (fs : List ℕ) (f : ℕ) → total program (fs ++ f ∷ []) ≡ total program fs + size_of (body_at program f)
+  total_more [] f = alone (size_of (body_at program f))
+    where
+      alone : (n : ℕ) → n + 0 ≡ 0 + n
+      alone n = omega arith
+  total_more (g ∷ fs) f = ap (λ n. size_of (body_at program g) + n) (total_more fs f) ∙ grouped (size_of (body_at program g)) (total program fs) (size_of (body_at program f))
+    where
+      grouped : (a b c : ℕ) → a + (b + c) ≡ (a + b) + c
+      grouped a b c = omega arith
+
+  pub spots_more : (fs : List ℕ) (f : ℕ) → text_spots program (fs ++ f ∷ []) ≡ text_spots program fs ++ spots_of [] (body_at program f)
+  spots_more [] f = append-nil (spots_of [] (body_at program f))
+  spots_more (g ∷ fs) f = ap (λ l. spots_of [] (body_at program g) ++ l) (spots_more fs f) ∙ sym (append_assoc (spots_of [] (body_at program g)) (text_spots program fs) (spots_of [] (body_at program f)))
+
+  moved : (n a b : ℕ) → (n + a) + b ≡ n + (a + b)
+  moved n a b = omega arith
+
+  still : (n : ℕ) → n ≡ n + 0
+  still n = omega arith
+
+  pub nexts_more : (n : ℕ) (fs : List ℕ) (f : ℕ) → nexts_from program n (fs ++ f ∷ []) ≡ nexts_from program n fs ++ nexts_of (body_at program f) (n + total program fs) [] [] []
+  nexts_more n [] f = append-nil (nexts_of (body_at program f) n [] [] []) ∙ ap (λ k. nexts_of (body_at program f) k [] [] []) (still n)
+  nexts_more n (g ∷ fs) f =
+      let own = nexts_of (body_at program g) n [] [] [] in
+      ap (λ l. own ++ l) (nexts_more (n + size_of (body_at program g)) fs f
+      ∙ ap (λ k. nexts_from program (n + size_of (body_at program g)) fs ++ nexts_of (body_at program f) k [] [] []) (moved n (size_of (body_at program g)) (total program fs)))
+      ∙ sym (append_assoc own (nexts_from program (n + size_of (body_at program g)) fs) (nexts_of (body_at program f) (n + (size_of (body_at program g) + total program fs)) [] [] []))
+
+  pub are_more : (n : ℕ) (functions : List Function) (fs : List ℕ) (function : Function) (f : ℕ) → AreOf program n functions fs → IsOf program (n + total program fs) f function
+      → AreOf program n (functions ++ function ∷ []) (fs ++ f ∷ [])
+  are_more n [] [] function f are is = (subst (λ k. IsOf program k f function) (sym (still n)) is, tt)
+  are_more n [] (g ∷ fs) function f are is = absurd are
+  are_more n (h ∷ functions) [] function f are is = absurd are
+  are_more n (h ∷ functions) (g ∷ fs) function f are is =
+      (are.0, are_more (n + size_of (body_at program g)) functions fs function f are.1 (subst (λ k. IsOf program k f function) (sym (moved n (size_of (body_at program g)) (total program fs))) is))
+
+  -- the function at a place
+  pub record Placed (n : ℕ) (functions : List Function) (fs : List ℕ) (place f : ℕ) : Type 0 where
+    pub function : Function
+    pub got : slice_get functions place ≡ Some function
+    pub before : List ℕ
+    pub is : IsOf program (n + total program before) f function
+
+  pub one_of : (n : ℕ) (functions : List Function) (fs : List ℕ) (place f : ℕ) → AreOf program n functions fs → slice_get fs place ≡ Some f
+      → (function : Function) × (slice_get functions place ≡ Some function) × IsOf program (n + total program (firsts place fs)) f function
+  one_of = ?
