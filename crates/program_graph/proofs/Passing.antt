@@ -44,14 +44,3 @@ module _ (program : Program) where
   are_more n (h ∷ functions) [] function f are is = absurd are
   are_more n (h ∷ functions) (g ∷ fs) function f are is =
       (are.0, are_more (n + size_of (body_at program g)) functions fs function f are.1 (subst (λ k. IsOf program k f function) (sym (moved n (size_of (body_at program g)) (total program fs))) is))
-
-  -- the function at a place
-  pub record Placed (n : ℕ) (functions : List Function) (fs : List ℕ) (place f : ℕ) : Type 0 where
-    pub function : Function
-    pub got : slice_get functions place ≡ Some function
-    pub before : List ℕ
-    pub is : IsOf program (n + total program before) f function
-
-  pub one_of : (n : ℕ) (functions : List Function) (fs : List ℕ) (place f : ℕ) → AreOf program n functions fs → slice_get fs place ≡ Some f
-      → (function : Function) × (slice_get functions place ≡ Some function) × IsOf program (n + total program (firsts place fs)) f function
-  one_of = ?
