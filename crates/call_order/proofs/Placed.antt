@@ -10,7 +10,7 @@ use Rattle.std.proofs.lemmas.Bool.Decides.{eqb_tells}
 use Rattle.std.specs.List.{list_all}
 use Rattle.call_order.specs.declared.calls.Callees.{Callees}
 use Rattle.call_order.specs.declared.placing.Placing.{Placing}
-use Rattle.call_order.specs.Orders.{callees_at, Names, HasNoCycle, IsOrder}
+use Rattle.call_order.specs.Orders.{callees_at, Names, IsLayered, IsOrder}
 use Rattle.call_order.specs.Placings.{IsPlaced, IsPlacing, IsStuck, IsStuckBelow, left_at, unplaced}
 
 -- ---- lists
@@ -36,7 +36,7 @@ got_push (z ∷ xs) y (suc k) x e = elim (got_push xs y k x e) [
 place_of : {A : Type 0} (xs : List A) (x : A) → Contains xs x → (k : ℕ) × (slice_get xs k ≡ Some x)
 place_of xs x c = (c.0, slice_get-get_or xs c.0 x c.1 ∙ ap Some c.2)
 
-passes : (p : ℕ → Bool) (xs : List ℕ) (k x : ℕ) → list_all p xs ≡ true → slice_get xs k ≡ Some x → p x ≡ true
+pub passes : {A : Type 0} (p : A → Bool) (xs : List A) (k : ℕ) (x : A) → list_all p xs ≡ true → slice_get xs k ≡ Some x → p x ≡ true
 passes p [] k x a e = cc
 passes p (y ∷ xs) zero x a e = first (p y) refl a
   where
@@ -49,12 +49,12 @@ passes p (y ∷ xs) (suc k) x a e = passes p xs k x (rest (p y) refl a) e
     rest true is all = cc
     rest false is all = cc
 
-pub fails : (p : ℕ → Bool) (xs : List ℕ) → list_all p xs ≡ false → (k : ℕ) × (k < length xs) × (p (get_or xs k 0) ≡ false)
-fails p [] e = cc
-fails p (y ∷ xs) e = go (p y) refl
+pub fails : {A : Type 0} (p : A → Bool) (xs : List A) (d : A) → list_all p xs ≡ false → (k : ℕ) × (k < length xs) × (p (get_or xs k d) ≡ false)
+fails p [] d e = cc
+fails p (y ∷ xs) d e = go (p y) refl
   where
-    go : (b : Bool) → p y ≡ b → (k : ℕ) × (k < length (y ∷ xs)) × (p (get_or (y ∷ xs) k 0) ≡ false)
-    go true is = let rest : list_all p xs ≡ false = cc in let f = fails p xs rest in (suc f.0, omega (arith, f.1), f.2)
+    go : (b : Bool) → p y ≡ b → (k : ℕ) × (k < length (y ∷ xs)) × (p (get_or (y ∷ xs) k d) ≡ false)
+    go true is = let rest : list_all p xs ≡ false = cc in let f = fails p xs d rest in (suc f.0, omega (arith, f.1), f.2)
     go false is = (0, omega arith, is)
 
 marked_within : (marks : List Bool) (i : ℕ) → get_or marks i false ≡ true → i < length marks
@@ -136,13 +136,12 @@ module _ (calls : List Callees) (old new : Placing) (function : ℕ) (within : f
 -- ---- the end
 
 -- what names only what is placed is placed, and so all is
-module _ (calls : List Callees) (placing : Placing) (within : (caller callee : ℕ) → Names calls caller callee → callee < length calls)
-    (acyclic : HasNoCycle calls) (stuck : IsStuckBelow calls placing (length calls)) where
-  up_to : (h function : ℕ) → function < length calls → acyclic.height function < h → IsPlaced placing function
+module _ (calls : List Callees) (placing : Placing) (layered : IsLayered calls) (stuck : IsStuckBelow calls placing (length calls)) where
+  up_to : (h function : ℕ) → function < length calls → layered.height function < h → IsPlaced placing function
   up_to zero function l b = absurd (omega (arith, b))
   up_to (suc h) function l b = elim (stuck function l) [
     | inl p ↦ p
-    | inr s ↦ (let p : IsPlaced placing s.0 = up_to h s.0 (within function s.0 s.1.0) (lower (acyclic.above function s.0 s.1.0) b) in
+    | inr s ↦ (let p : IsPlaced placing s.0 = up_to h s.0 (layered.known function s.0 s.1.0) (lower (layered.above function s.0 s.1.0) b) in
         let q = s.1.1 in cc)
   ]
     where
@@ -150,15 +149,21 @@ module _ (calls : List Callees) (placing : Placing) (within : (caller callee : �
       lower l m = omega arith
 
   pub all_placed : (function : ℕ) → function < length calls → IsPlaced placing function
-  all_placed function l = up_to (suc (acyclic.height function)) function l (next (acyclic.height function))
+  all_placed function l = up_to (suc (layered.height function)) function l (next (layered.height function))
     where
       next : (n : ℕ) → n < suc n
       next n = omega arith
 
-  pub in_order : IsPlacing calls placing → IsOrder calls placing.order.items
-  in_order is = record {
-    each = λ f l. is.each f (all_placed f l);
-    one = is.one;
-    only = λ k f e. subst (λ n. f < n) is.long (marked_within placing.placed.items f (is.only k f e));
-    inward = is.inward;
-  }
+pub in_order : (calls : List Callees) (placing : Placing) → IsPlacing calls placing → list_all (λ b. b) placing.placed.items ≡ true → IsOrder calls placing.order.items
+in_order calls placing is all = record {
+  each = λ f l. is.each f (passes (λ b. b) placing.placed.items f (get_or placing.placed.items f false) all (slice_get-get_or placing.placed.items f false (subst (λ n. f < n) (sym is.long) l)));
+  one = is.one;
+  only = λ k f e. subst (λ n. f < n) is.long (marked_within placing.placed.items f (is.only k f e));
+  inward = is.inward;
+}
+
+pub not_layered : (calls : List Callees) (placing : Placing) → IsPlacing calls placing → IsStuckBelow calls placing (length calls) → list_all (λ b. b) placing.placed.items ≡ false → IsLayered calls → ⊥
+not_layered calls placing is stuck some layered =
+    let f = fails (λ b. b) placing.placed.items false some in
+    let p : IsPlaced placing f.0 = all_placed calls placing layered stuck f.0 (subst (λ n. f.0 < n) is.long f.1) in
+    let q = f.2 in cc

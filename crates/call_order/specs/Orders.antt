@@ -11,8 +11,9 @@ abbrev pub Names : List Callees → ℕ → ℕ → Type 0
 Names calls caller callee = Contains (callees_at calls caller) callee
 
 -- no function names itself, neither at once nor through others (MISRA C:2012, rule 17.2): each stands above those that it names
-pub record HasNoCycle (calls : List Callees) : Type 0 where
+pub record IsLayered (calls : List Callees) : Type 0 where
   pub height : ℕ → ℕ
+  pub known : (caller callee : ℕ) → Names calls caller callee → callee < length calls
   pub above : (caller callee : ℕ) → Names calls caller callee → height callee < height caller
 
 -- each function has one place, behind those that it names

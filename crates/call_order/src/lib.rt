@@ -3,6 +3,8 @@
 
 pub mod calls;
 mod placing;
+#[cfg(test)]
+mod tests;
 
 pub use calls::Callees;
-pub use placing::order;
+pub use placing::{OrderStop, order};

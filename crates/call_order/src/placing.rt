@@ -1,8 +1,9 @@
 //! Functions are placed in rounds: in each one those whose callees are all placed.
-ghost use Rattle.std.specs.Prelude.{◌≡◌, ◌<◌, ◌≤◌, ◌^◌, ℕ, true, false, OnOk, IfOk, MatchResult, length, slice_index_or, vec_len};
+ghost use Rattle.std.specs.Prelude.{◌≡◌, ◌<◌, ◌^◌, ℕ, false, OnOk, IfOk, MatchResult, length, slice_index_or};
 ghost use Rattle.std.specs.List.{list_all};
-ghost use Rattle.call_order.specs.Orders.{callees_at, Names, HasNoCycle, IsOrder};
-ghost use Rattle.call_order.specs.Placings.{IsPlaced, IsPlacing, unplaced, Grows, IsStuck, IsStuckBelow};
+ghost use Rattle.call_order.specs.Orders.{IsOrder};
+ghost use Rattle.call_order.specs.Placings.{IsPlacing, Grows, IsStuck, IsStuckBelow};
+ghost use Rattle.call_order.specs.Stops.{StopsBy};
 
 use crate::calls::Callees;
 use std::alloc::{AllocError, Global};
@@ -46,6 +47,13 @@ impl Placing {
         functions.iter().all(|function| self.is_placed(*function))
     }
 
+    /// Whether all functions are placed.
+    fn is_complete(&self) -> bool
+        ensures { result ≡ list_all (λ b. b) self.now.placed.items }
+    {
+        self.placed.iter().all(|placed| *placed)
+    }
+
     /// Places a function, if it is not placed and all that it names are. Answers whether it did.
     fn place(&mut self, calls: &[Callees], function: u32) -> Result<bool, AllocError>
         requires placing { IsPlacing calls.now self.old }
@@ -83,17 +91,40 @@ impl Placing {
     }
 }
 
-/// An order of all functions of a table, in which each stands behind those that it names.
-pub fn order(alloc: Global, calls: &[Callees]) -> Result<Vec<u32>, AllocError>
+/// Why functions have no order.
+#[derive(Clone, Copy, Debug, PartialEq, Eq)]
+pub enum OrderStop {
+    /// A function names itself, at once or through others, or one that is not in the table.
+    Cycle,
+    Memory,
+}
+
+/// Places functions until no more can be placed.
+fn place_all(alloc: Global, calls: &[Callees]) -> Result<Placing, AllocError>
     requires few { length calls.now < 2 ^ 32 }
-    requires within { (caller callee : ℕ) → Names calls.now caller callee → callee < length calls.now }
-    requires acyclic { HasNoCycle calls.now }
-    ensures { IfOk result (λ order. IsOrder calls.now order.items) }
+    ensures placing { IfOk result (λ placing. IsPlacing calls.now placing) }
+    ensures stuck { IfOk result (λ placing. IsStuckBelow calls.now placing (length calls.now)) }
 {
     let mut placing = Placing::new(alloc, calls.len())?;
     let mut grew = true;
     while grew {
         grew = placing.round(calls)?;
     }
-    Ok(placing.order)
+    Ok(placing)
+}
+
+/// An order of all functions of a table, in which each stands behind those that it names.
+pub fn order(alloc: Global, calls: &[Callees]) -> Result<Vec<u32>, OrderStop>
+    requires few { length calls.now < 2 ^ 32 }
+    ensures { MatchResult result (λ order. IsOrder calls.now order.items) (StopsBy calls.now) }
+{
+    let placing = match place_all(alloc, calls) {
+        Ok(placing) => placing,
+        Err(_) => return Err(OrderStop::Memory),
+    };
+    if placing.is_complete() {
+        Ok(placing.order)
+    } else {
+        Err(OrderStop::Cycle)
+    }
 }

@@ -63,9 +63,9 @@ module _ (program : Program) (label : ℕ → Spot) (next : ℕ → List ℕ) wh
       let own = nexts_of (body_at program f) start [] [] [] in
       let more = nexts_from program (start + size_of (body_at program f)) fs in
       let found = laid (start + size_of (body_at program f)) functions fs are.1
-          (subst (λ k. At label (start + k) (text_spots program fs)) (spots_long (body_at program f)) (at_right label start (spots_of [] (body_at program f)) (text_spots program fs) spots))
-          (subst (λ k. At next (start + k) more) (nexts_long (body_at program f) start [] [] []) (at_right next start own more nexts))
-          place (omega (arith, l)) in
+      (subst (λ k. At label (start + k) (text_spots program fs)) (spots_long (body_at program f)) (at_right label start (spots_of [] (body_at program f)) (text_spots program fs) spots))
+      (subst (λ k. At next (start + k) more) (nexts_long (body_at program f) start [] [] []) (at_right next start own more nexts))
+      place (omega (arith, l)) in
       record { function = found.function; got = found.got; f = found.f; named = found.named; is = found.is; spots = found.spots; nexts = found.nexts }
 
 -- ---- where functions begin and end

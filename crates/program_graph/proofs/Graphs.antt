@@ -143,7 +143,7 @@ module _ (program : Program) (flow : Flow) (made : IsMade program flow) where
       let o = own n action l h in
       let rows = nexts_of (body_at program l.f) l.function.first [] [] [] in
       let row : In (next_at flow.graph action) rows = in_range (next_at flow.graph) l.function.first rows action l.nexts o.0
-          (subst (λ m. action < l.function.first + m) (sym (nexts_long (body_at program l.f) l.function.first [] [] [])) o.1) in
+      (subst (λ m. action < l.function.first + m) (sym (nexts_long (body_at program l.f) l.function.first [] [] [])) o.1) in
       let each = nexts_within (IsOwn n l) (body_at program l.f) l.function.first [] [] [] (λ m low high. (low, high)) tt tt tt in
       has n next l (each_in (IsOwn n l) next (next_at flow.graph action) (each_in (Each (IsOwn n l)) (next_at flow.graph action) rows each row) (in_got next (next_at flow.graph action) k e))
 

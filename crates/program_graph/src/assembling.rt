@@ -11,7 +11,7 @@ use crate::callees::calls;
 use crate::places::{places, transfer_at};
 use crate::text::{Text, read};
 use c_program::program::Program;
-use call_order::order;
+use call_order::{OrderStop, order};
 use control_flow::flow::{Flow, Spot};
 use control_flow::rows::Row;
 use control_flow::stop::BuildStop;
@@ -52,10 +52,13 @@ fn nodes(
     let mut k = 0;
     for row in rows {
         let transfer = transfer_at(program, spots[k].action, order, places);
-        add_node(&mut nodes, Node {
-            transfer,
-            next: row.next,
-        })?;
+        add_node(
+            &mut nodes,
+            Node {
+                transfer,
+                next: row.next,
+            },
+        )?;
         k += 1;
     }
     Ok(nodes)
@@ -81,7 +84,8 @@ pub fn build(alloc: Global, program: &Program) -> Result<Flow, BuildStop>
     };
     let order = match order(alloc, calls.as_slice()) {
         Ok(order) => order,
-        Err(_) => return Err(BuildStop::Memory),
+        Err(OrderStop::Memory) => return Err(BuildStop::Memory),
+        Err(OrderStop::Cycle) => unreachable!(),
     };
     connect(alloc, program, order)
 }
@@ -110,7 +114,14 @@ fn connect(alloc: Global, program: &Program, order: Vec<u32>) -> Result<Flow, Bu
         functions,
         nodes: _,
     } = text;
-    let nodes = nodes(alloc, program, order.as_slice(), places.as_slice(), spots.as_slice(), rows)?;
+    let nodes = nodes(
+        alloc,
+        program,
+        order.as_slice(),
+        places.as_slice(),
+        spots.as_slice(),
+        rows,
+    )?;
     let graph = Graph {
         nodes,
         functions,

@@ -1,6 +1,6 @@
 use Rattle.std.proofs.Common.{◌≡◌, ◌+◌, false, length, cond}
 use Rattle.call_order.specs.Placings.{IsPlacing, IsStuckBelow, unplaced}
-use Rattle.call_order.proofs.placing.order.Given as goal
+use Rattle.call_order.proofs.placing.place_all.Given as goal
 
 abbrev pub invariant-loop-grew : goal.invariant-loop-grew
 invariant-loop-grew l = record {
