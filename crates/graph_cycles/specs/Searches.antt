@@ -16,7 +16,7 @@ left_at s node = slice_index s.left.items node
 
 -- the open node at a position
 abbrev pub At : Search → ℕ → ℕ → Type 0
-At s i node = slice_get s.open.items i ≡ Some node
+At s i node = slice_get s.active.items i ≡ Some node
 
 -- no group begins behind the one position up to the other
 abbrev pub Joined : Search → ℕ → ℕ → Type 0
@@ -45,11 +45,11 @@ pub record IsOver (edges : List Edges) (s : Search) : Type 0 where
 -- the path and the groups
 pub record IsGrouped (s : Search) : Type 0 where
   pub path : IsRising s.path.items
-  pub within : (position : ℕ) → Contains s.path.items position → position < length s.open.items
+  pub within : (position : ℕ) → Contains s.path.items position → position < length s.active.items
   pub groups : IsRising s.groups.items
   -- a group begins on the path, and what is open is in one
   pub on_path : (begin : ℕ) → Contains s.groups.items begin → Contains s.path.items begin
-  pub opens : 0 < length s.open.items → Contains s.groups.items 0
+  pub opens : 0 < length s.active.items → Contains s.groups.items 0
 
 -- what edges are known of the open nodes
 pub record IsLinked (edges : List Edges) (s : Search) : Type 0 where

@@ -1,6 +1,7 @@
 //! A search along paths, depth first. Nodes that lead to each other are in one group, so a group that is left for good
 //! is a strongly connected component.
-ghost use Rattle.std.specs.Prelude.{◌≡◌};
+ghost use Rattle.std.specs.Prelude.{◌≡◌, ◌<◌, ◌≤◌, ℕ, Some, slice_get, length};
+ghost use Rattle.graph_cycles.specs.Searches.{IsRising};
 
 use crate::edges::Edges;
 use std::alloc::{AllocError, Global};
@@ -21,7 +22,7 @@ pub(crate) struct Search {
     /// For each node how many of its first edges are not followed yet.
     pub(crate) left: Vec<usize>,
     /// The open nodes, in the order in which they were met.
-    pub(crate) open: Vec<usize>,
+    pub(crate) active: Vec<usize>,
     /// The positions at which groups begin. A group goes up to the next one.
     pub(crate) groups: Vec<usize>,
     /// The positions of the open nodes on the path, which are all that may have edges to follow.
@@ -41,7 +42,7 @@ impl Search {
         Ok(Search {
             places,
             left,
-            open: Vec::new(alloc),
+            active: Vec::new(alloc),
             groups: Vec::new(alloc),
             path: Vec::new(alloc),
             cyclic,
@@ -58,19 +59,32 @@ impl Search {
 
     /// Opens a new node, in a group of its own at the end of the path.
     pub(crate) fn enter(&mut self, node: usize) -> Result<(), AllocError> {
-        let position = self.open.len();
-        self.open.push(node)?;
+        let position = self.active.len();
+        self.active.push(node)?;
         self.groups.push(position)?;
         self.path.push(position)?;
         self.places[node] = Place::Open(position);
         Ok(())
     }
 
+    /// How many groups begin up to a position.
+    fn groups_up_to(&self, position: usize) -> usize
+        requires { IsRising self.now.groups.items }
+        ensures within { result ≤ length self.now.groups.items }
+        ensures low { (i begin : ℕ) → i < result → slice_get self.now.groups.items i ≡ Some begin → begin ≤ position }
+        ensures high { (i begin : ℕ) → result ≤ i → slice_get self.now.groups.items i ≡ Some begin → position < begin }
+    {
+        let mut count = self.groups.len();
+        while count > 0 && self.groups[count - 1] > position {
+            count -= 1;
+        }
+        count
+    }
+
     /// Joins all groups from the one of a position on.
     fn join(&mut self, position: usize) {
-        while !self.groups.is_empty() && self.groups[self.groups.len() - 1] > position {
-            self.groups.pop();
-        }
+        let count = self.groups_up_to(position);
+        self.groups.truncate(count);
     }
 
     /// Follows an edge from the end of the path.
@@ -87,13 +101,13 @@ impl Search {
 
     /// Closes the open nodes from a position on.
     fn close(&mut self, edges: &[Edges], position: usize) {
-        let many = self.open.len() > position + 1;
-        while self.open.len() > position {
-            if let Some(node) = self.open.pop() {
-                self.places[node] = Place::Closed;
-                self.cyclic[node] = many || leads_to_itself(edges, node);
-            }
+        let many = self.active.len() > position + 1;
+        for i in position..self.active.len() {
+            let node = self.active[i];
+            self.places[node] = Place::Closed;
+            self.cyclic[node] = many || leads_to_itself(edges, node);
         }
+        self.active.truncate(position);
     }
 
     /// Goes back from the end of the path, whose edges are all followed.
@@ -107,11 +121,12 @@ impl Search {
 
     /// One step from the end of the path.
     pub(crate) fn step(&mut self, edges: &[Edges], position: usize) -> Result<(), AllocError> {
-        let node = self.open[position];
+        let node = self.active[position];
         let left = self.left[node];
         if left > 0 {
+            self.follow(edges[node].next[left - 1] as usize)?;
             self.left[node] = left - 1;
-            self.follow(edges[node].next[left - 1] as usize)
+            Ok(())
         } else {
             self.leave(edges, position);
             Ok(())
