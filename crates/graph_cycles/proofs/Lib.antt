@@ -1,2 +1,5 @@
 pub mod Lists
+pub mod Reaching
 pub mod Entering
+pub mod Joining
+pub mod Leaving
