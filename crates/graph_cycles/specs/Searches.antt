@@ -1,5 +1,5 @@
 -- What holds during a search along paths.
-use Rattle.std.specs.Prelude.{◌≡◌, ◌<◌, ◌≤◌, ◌⊎◌, ◌↔◌, ℕ, ◌+◌, ◌*◌, Bool, true, false, List, [], ◌∷◌, Some, slice_get, slice_index, slice_index_or, length}
+use Rattle.std.specs.Prelude.{◌≡◌, ◌<◌, ◌≤◌, ◌⊎◌, ◌↔◌, ℕ, ◌+◌, ◌*◌, Bool, true, false, List, [], ◌∷◌, ◌++◌, Some, slice_get, slice_index, slice_index_or, length}
 use Rattle.std.specs.List.{Contains, sum_by}
 use Rattle.graph_cycles.specs.declared.edges.Edges.{Edges}
 use Rattle.graph_cycles.specs.declared.search.Place.{Place}
@@ -83,3 +83,45 @@ effort s = (2 * sum_by new_at s.places.items + sum_by (λ n. n) s.left.items) + 
 -- nodes that were met stay met
 abbrev pub Keeps : Search → Search → Type 0
 Keeps old new = (node : ℕ) → place_at new node ≡ New → place_at old node ≡ New
+
+-- ---- steps
+
+-- the path ends at the position
+abbrev pub EndsIn : Search → ℕ → Type 0
+EndsIn s position = (rest : List ℕ) × (s.path.items ≡ rest ++ position ∷ [])
+
+-- all groups behind the position are joined to the one before
+pub record IsJoined (old new : Search) (position : ℕ) : Type 0 where
+  pub places : new.places.items ≡ old.places.items
+  pub active : new.active.items ≡ old.active.items
+  pub path : new.path.items ≡ old.path.items
+  pub left : new.left.items ≡ old.left.items
+  pub marks : new.cyclic.items ≡ old.cyclic.items
+  pub rising : IsRising new.groups.items
+  pub fewer : (begin : ℕ) → Contains new.groups.items begin → Contains old.groups.items begin × (begin ≤ position)
+  pub kept : (begin : ℕ) → Contains old.groups.items begin → begin ≤ position → Contains new.groups.items begin
+
+-- an edge is followed from the position, which stays on the path
+pub record Goes (old new : Search) (position : ℕ) : Type 0 where
+  pub left : new.left.items ≡ old.left.items
+  pub here : (node : ℕ) → At old position node → At new position node
+  pub on_path : Contains new.path.items position
+  pub kept : Keeps old new
+  pub effort : effort new ≤ effort old
+
+-- the open nodes from the position on are closed
+pub record IsClosedFrom (edges : List Edges) (old new : Search) (position : ℕ) : Type 0 where
+  pub groups : new.groups.items ≡ old.groups.items
+  pub path : new.path.items ≡ old.path.items
+  pub left : new.left.items ≡ old.left.items
+  pub places_long : length new.places.items ≡ length old.places.items
+  pub marks_long : length new.cyclic.items ≡ length old.cyclic.items
+  pub count : length new.active.items ≡ position
+  pub cut : (i node : ℕ) → At new i node → At old i node × (i < position)
+  pub keep : (i node : ℕ) → At old i node → i < position → At new i node
+  pub closes : (i node : ℕ) → At old i node → position ≤ i → place_at new node ≡ Closed
+  pub marks : (i node : ℕ) → At old i node → position ≤ i → (slice_index_or new.cyclic.items node false ≡ true) ↔ ((position + 1 < length old.active.items) ⊎ Edge edges node node)
+  pub others : (node : ℕ) → ((i : ℕ) → At old i node → position ≤ i → ⊥)
+      → (place_at new node ≡ place_at old node) × (slice_index_or new.cyclic.items node false ≡ slice_index_or old.cyclic.items node false)
+  pub kept : Keeps old new
+  pub effort : effort new ≤ effort old

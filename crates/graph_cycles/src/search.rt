@@ -1,7 +1,11 @@
 //! A search along paths, depth first. Nodes that lead to each other are in one group, so a group that is left for good
 //! is a strongly connected component.
-ghost use Rattle.std.specs.Prelude.{◌≡◌, ◌<◌, ◌≤◌, ℕ, Some, slice_get, length};
-ghost use Rattle.graph_cycles.specs.Searches.{IsRising};
+ghost use Rattle.std.specs.Prelude.{◌≡◌, ◌<◌, ◌≤◌, ◌==◌, ◌++◌, ◌∷◌, [], ℕ, List, Some, slice_get, length, IfOk, OnOk};
+ghost use Rattle.std.specs.List.{list_any};
+ghost use Rattle.graph_cycles.specs.declared.edges.Edges.{Edges};
+ghost use Rattle.graph_cycles.specs.declared.search.Place.TheVariants.{New, Open};
+ghost use Rattle.graph_cycles.specs.Cycles.{nexts, Edge};
+ghost use Rattle.graph_cycles.specs.Searches.{place_at, left_at, At, Reaches, IsFollowed, IsRising, IsOver, IsSearching, EndsIn, IsJoined, Goes, IsClosedFrom, Keeps, effort};
 
 use crate::edges::Edges;
 use std::alloc::{AllocError, Global};
@@ -32,7 +36,10 @@ pub(crate) struct Search {
 }
 
 impl Search {
-    pub(crate) fn new(alloc: Global, edges: &[Edges]) -> Result<Search, AllocError> {
+    pub(crate) fn new(alloc: Global, edges: &[Edges]) -> Result<Search, AllocError>
+        ensures searching { IfOk result (λ s. IsSearching edges.now s) }
+        ensures path { IfOk result (λ s. length s.path.items ≡ 0) }
+    {
         let mut left = Vec::new(alloc);
         for all in edges {
             left.push(all.next.len())?;
@@ -49,7 +56,9 @@ impl Search {
         })
     }
 
-    pub(crate) fn place(&self, node: usize) -> Place {
+    pub(crate) fn place(&self, node: usize) -> Place
+        ensures { result ≡ place_at self.now node }
+    {
         if node < self.places.len() {
             self.places[node]
         } else {
@@ -58,7 +67,17 @@ impl Search {
     }
 
     /// Opens a new node, in a group of its own at the end of the path.
-    pub(crate) fn enter(&mut self, node: usize) -> Result<(), AllocError> {
+    pub(crate) fn enter(&mut self, node: usize) -> Result<(), AllocError>
+        requires node { node < length self.old.places.items }
+        requires fresh { place_at self.old node ≡ New }
+        ensures searching { OnOk result ((edges : List Edges) → IsSearching edges self.old → ((i a : ℕ) → At self.old i a → Reaches edges a node) → IsSearching edges self.new) }
+        ensures place { OnOk result (place_at self.new node ≡ Open (length self.old.active.items)) }
+        ensures active { OnOk result (self.new.active.items ≡ self.old.active.items ++ node ∷ []) }
+        ensures path { OnOk result (self.new.path.items ≡ self.old.path.items ++ length self.old.active.items ∷ []) }
+        ensures left { OnOk result (self.new.left.items ≡ self.old.left.items) }
+        ensures kept { OnOk result (Keeps self.old self.new) }
+        ensures effort { OnOk result (effort self.new < effort self.old) }
+    {
         let position = self.active.len();
         self.active.push(node)?;
         self.groups.push(position)?;
@@ -82,13 +101,23 @@ impl Search {
     }
 
     /// Joins all groups from the one of a position on.
-    fn join(&mut self, position: usize) {
+    fn join(&mut self, position: usize)
+        requires { IsRising self.old.groups.items }
+        ensures { IsJoined self.old self.new position }
+    {
         let count = self.groups_up_to(position);
         self.groups.truncate(count);
     }
 
     /// Follows an edge from the end of the path.
-    fn follow(&mut self, next: usize) -> Result<(), AllocError> {
+    fn follow(&mut self, edges: &[Edges], position: usize, next: usize) -> Result<(), AllocError>
+        requires searching { IsSearching edges.now self.old }
+        requires end { EndsIn self.old position }
+        requires leads { (a : ℕ) → At self.old position a → Edge edges.now a next }
+        ensures searching { OnOk result (IsSearching edges.now self.new) }
+        ensures followed { OnOk result (IsFollowed self.new position next) }
+        ensures grows { OnOk result (Goes self.old self.new position) }
+    {
         match self.place(next) {
             Place::New => self.enter(next),
             Place::Open(position) => {
@@ -100,7 +129,11 @@ impl Search {
     }
 
     /// Closes the open nodes from a position on.
-    fn close(&mut self, edges: &[Edges], position: usize) {
+    fn close(&mut self, edges: &[Edges], position: usize)
+        requires over { IsOver edges.now self.old }
+        requires position { position < length self.old.active.items }
+        ensures { IsClosedFrom edges.now self.old self.new position }
+    {
         let many = self.active.len() > position + 1;
         for i in position..self.active.len() {
             let node = self.active[i];
@@ -111,7 +144,14 @@ impl Search {
     }
 
     /// Goes back from the end of the path, whose edges are all followed.
-    fn leave(&mut self, edges: &[Edges], position: usize) {
+    fn leave(&mut self, edges: &[Edges], position: usize)
+        requires searching { IsSearching edges.now self.old }
+        requires end { EndsIn self.old position }
+        requires done { (a : ℕ) → At self.old position a → left_at self.old a ≡ 0 }
+        ensures searching { IsSearching edges.now self.new }
+        ensures kept { Keeps self.old self.new }
+        ensures effort { effort self.new < effort self.old }
+    {
         self.path.pop();
         if self.groups[self.groups.len() - 1] == position {
             self.groups.pop();
@@ -120,11 +160,17 @@ impl Search {
     }
 
     /// One step from the end of the path.
-    pub(crate) fn step(&mut self, edges: &[Edges], position: usize) -> Result<(), AllocError> {
+    pub(crate) fn step(&mut self, edges: &[Edges], position: usize) -> Result<(), AllocError>
+        requires searching { IsSearching edges.now self.old }
+        requires end { EndsIn self.old position }
+        ensures searching { OnOk result (IsSearching edges.now self.new) }
+        ensures kept { OnOk result (Keeps self.old self.new) }
+        ensures effort { OnOk result (effort self.new < effort self.old) }
+    {
         let node = self.active[position];
         let left = self.left[node];
         if left > 0 {
-            self.follow(edges[node].next[left - 1] as usize)?;
+            self.follow(edges, position, edges[node].next[left - 1] as usize)?;
             self.left[node] = left - 1;
             Ok(())
         } else {
@@ -135,6 +181,9 @@ impl Search {
 }
 
 /// Whether an edge leads from a node to itself.
-fn leads_to_itself(edges: &[Edges], node: usize) -> bool {
+fn leads_to_itself(edges: &[Edges], node: usize) -> bool
+    requires { node < length edges.now }
+    ensures { result ≡ list_any (λ next. next == node) (nexts edges.now node) }
+{
     edges[node].next.iter().any(|next| *next as usize == node)
 }
