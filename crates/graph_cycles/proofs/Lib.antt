@@ -1,5 +1,6 @@
 pub mod Lists
 pub mod Reaching
 pub mod Entering
+pub mod Cutting
 pub mod Joining
 pub mod Leaving

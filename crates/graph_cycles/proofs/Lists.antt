@@ -1,5 +1,5 @@
 -- Lists of positions, and reads of tables.
-use Rattle.std.proofs.Common.{◌≡◌, ◌⊎◌, inl, inr, refl, sym, subst, ap, ◌∙◌, ℕ, zero, suc, ◌+◌, ◌<◌, ◌≤◌, Bool, true, false, List, [], ◌∷◌, ◌++◌, length, get_or, set, Contains, Some, None, slice_get, arith}
+use Rattle.std.proofs.Common.{◌≡◌, ◌⊎◌, inl, inr, refl, sym, subst, ap, ◌∙◌, ℕ, zero, suc, ◌+◌, ◌<◌, ◌≤◌, Bool, true, false, List, [], ◌∷◌, ◌++◌, length, get_or, set, take, Contains, Some, None, slice_get, arith}
 use Rattle.std.proofs.Math.ListN.{get_or-eq_default}
 use Rattle.std.proofs.lemmas.Option.{slice_get_within, slice_get-get_or, get_or_from_slice_get}
 use Rattle.std.proofs.lemmas.List.Elements.{Contains-push_cases, Contains-append_left, Contains-push}
@@ -65,3 +65,23 @@ rising_left xs ys r i j a b l e f = r i j a b l (got_more xs ys i a e) (got_more
 pub rising_last : (xs : List ℕ) (x y : ℕ) → IsRising (xs ++ x ∷ []) → Contains xs y → y < x
 rising_last xs x y r c = let p = place_of xs y c in
     r p.0 (length xs) y x (slice_get_within xs p.0 y p.1) (got_more xs (x ∷ []) p.0 y p.1) (got_last xs x)
+
+-- ---- the first of a list
+
+pub got_take : {A : Type 0} (count : ℕ) (xs : List A) (k : ℕ) (x : A) → slice_get (take count xs) k ≡ Some x → (slice_get xs k ≡ Some x) × (k < count)
+got_take zero xs k x e = absurd (none xs e)
+  where
+    none : {A : Type 0} {k : ℕ} {x : A} (xs : List A) → slice_get (take 0 xs) k ≡ Some x → ⊥
+    none xs e = cc
+got_take (suc count) [] k x e = absurd (cc)
+got_take (suc count) (y ∷ xs) zero x e = (e, omega arith)
+got_take (suc count) (y ∷ xs) (suc k) x e = let r = got_take count xs k x e in (r.0, omega (arith, r.1))
+
+pub take_got : {A : Type 0} (count : ℕ) (xs : List A) (k : ℕ) (x : A) → slice_get xs k ≡ Some x → k < count → slice_get (take count xs) k ≡ Some x
+take_got zero xs k x e l = absurd (omega (arith, l))
+take_got (suc count) [] k x e l = e
+take_got (suc count) (y ∷ xs) zero x e l = e
+take_got (suc count) (y ∷ xs) (suc k) x e l = take_got count xs k x e (omega (arith, l))
+
+pub rising_take : (count : ℕ) (xs : List ℕ) → IsRising xs → IsRising (take count xs)
+rising_take count xs r i j a b l e f = r i j a b l (got_take count xs i a e).0 (got_take count xs j b f).0
