@@ -5,3 +5,4 @@ pub mod Cutting
 pub mod Joining
 pub mod Leaving
 pub mod Closing
+pub mod Starting
