@@ -6,3 +6,4 @@ pub mod Joining
 pub mod Leaving
 pub mod Closing
 pub mod Starting
+pub mod Measures
