@@ -30,6 +30,32 @@ in_range table n (x ∷ xs) i at low high = elim (eq-or-lt_of_le low) [
     within : (n a i : ℕ) → i < n + suc a → i < suc n + a
     within n a i l = omega arith
 
+-- and what is in the list stands in the range
+pub record Standing {A : Type 0} (table : ℕ → A) (n count : ℕ) (x : A) : Type 0 where
+  pub number : ℕ
+  pub low : n ≤ number
+  pub high : number < n + count
+  pub here : table number ≡ x
+
+pub standing : {A : Type 0} (table : ℕ → A) (n : ℕ) (xs : List A) (x : A) → At table n xs → In x xs → Standing table n (length xs) x
+standing table n [] x at i = absurd i
+standing table n (y ∷ xs) x at (inl e) = record { number = n; low = least n; high = wide n (length xs); here = at.0 ∙ e }
+  where
+    least : (n : ℕ) → n ≤ n
+    least n = omega arith
+
+    wide : (n a : ℕ) → n < n + suc a
+    wide n a = omega arith
+standing table n (y ∷ xs) x at (inr i) =
+    let s = standing table (suc n) xs x at.1 i in
+    record { number = s.number; low = earlier n s.number s.low; high = within n (length xs) s.number s.high; here = s.here }
+  where
+    earlier : (n i : ℕ) → suc n ≤ i → n ≤ i
+    earlier n i l = omega arith
+
+    within : (n a i : ℕ) → i < suc n + a → i < n + suc a
+    within n a i l = omega arith
+
 module _ (program : Program) (label : ℕ → Spot) (next : ℕ → List ℕ) where
   -- a function with its nodes
   pub record Laid (functions : List Function) (fs : List ℕ) (place : ℕ) : Type 0 where

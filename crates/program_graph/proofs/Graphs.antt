@@ -26,7 +26,7 @@ use Rattle.program_graph.specs.Calls.{callee_in, callees_of, Calls, IsOrder}
 use Rattle.program_graph.specs.Passes.{total}
 use Rattle.program_graph.proofs.Lengths.{spots_long, nexts_long}
 use Rattle.program_graph.proofs.Ranges.{Within, first_in as first_within, nexts_in as nexts_within}
-use Rattle.program_graph.proofs.Functions.{in_range, Laid, laid, opens_in, follows_in, within_in, rows_long}
+use Rattle.program_graph.proofs.Functions.{in_range, Standing, standing, Laid, laid, opens_in, follows_in, within_in, rows_long}
 
 -- ---- what an action does names the function that it calls
 
@@ -136,6 +136,12 @@ module _ (program : Program) (flow : Flow) (made : IsMade program flow) where
   pub spot_own : (n action : ℕ) (l : Found n) → Has flow.graph n action → In (spot_at flow action) (spots_of [] (body_at program l.f))
   spot_own n action l h = let o = own n action l h in
       in_range (spot_at flow) l.function.first (spots_of [] (body_at program l.f)) action l.spots o.0 (subst (λ k. action < l.function.first + k) (sym (spots_long (body_at program l.f))) o.1)
+
+  -- and each spot of its body has a node of its own
+  pub node_of : (n : ℕ) (l : Found n) (spot : Spot) → In spot (spots_of [] (body_at program l.f)) → (action : ℕ) × Has flow.graph n action × (spot_at flow action ≡ spot)
+  node_of n l spot i =
+      let s = standing (spot_at flow) l.function.first (spots_of [] (body_at program l.f)) spot l.spots i in
+      (s.number, has n s.number l (s.low, subst (λ k. s.number < l.function.first + k) (spots_long (body_at program l.f)) s.high), s.here)
 
   stays : (n action k next : ℕ) → Has flow.graph n action → slice_get (next_at flow.graph action) k ≡ Some next → Has flow.graph n next
   stays n action k next h e =
