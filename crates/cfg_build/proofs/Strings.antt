@@ -71,3 +71,62 @@ module _ (program : Program) (flow : Flow) (made : IsMade program flow) (main : 
         string_is = string_is;
         thread_is = ap (λ b. map (spot_at flow) (cond b (n.number ∷ before.numbers) (origin_of flow.graph before.numbers))) (ap creates d.1) ∙ string_is;
       }
+
+  -- ---- and back
+
+  -- what a node's transfer says of its action
+  data Deed (a : Act) (callee : ℕ) (creating : Bool) : Type 0 where
+    calls : (function : ℕ) (arguments : List Expr) (result : Option Local) → a ≡ Call function arguments result → slice_get flow.order.items callee ≡ Some function → creating ≡ false → Deed a callee creating
+    starts : (object argument : Expr) (function : ℕ) (result : Option Local) → a ≡ Library (ThreadCreate object function argument) result → slice_get flow.order.items callee ≡ Some function
+        → creating ≡ true → Deed a callee creating
+
+  same_callee : {t : Transfer} (c callee : ℕ) → callee_of t ≡ Some c → callee_of t ≡ Some callee → c ≡ callee
+  same_callee c callee e f = cc
+
+  none_called : {t : Transfer} (callee : ℕ) → callee_of t ≡ None → callee_of t ≡ Some callee → ⊥
+  none_called callee e f = cc
+
+  deed : (a : Act) (t : Transfer) (callee : ℕ) → Does flow.order.items a t → callee_of t ≡ Some callee → Deed a callee (creates t)
+  deed (Call function arguments result) t callee d e =
+      calls function arguments result refl (subst (λ k. slice_get flow.order.items k ≡ Some function) (same_callee {t} d.0 callee (ap callee_of d.1) e) d.2) (ap creates d.1)
+  deed (Library (ThreadCreate object function argument) result) t callee d e =
+      starts object argument function result refl (subst (λ k. slice_get flow.order.items k ≡ Some function) (same_callee {t} d.0 callee (ap callee_of d.1) e) d.2) (ap creates d.1)
+  deed (Library (ThreadExit value) result) t callee d e = absurd (none_called {t} callee (ap callee_of d) e)
+  deed (Return value) t callee d e = absurd (none_called {t} callee (ap callee_of d) e)
+  deed End t callee d e = absurd (none_called {t} callee (ap callee_of d) e)
+  deed _ t callee d e = absurd (none_called {t} callee (ap callee_of d) e)
+
+  -- a call string of the graph is one of the program
+  pub record Spotted (numbers : List ℕ) (place : ℕ) : Type 0 where
+    pub function : ℕ
+    pub named : slice_get flow.order.items place ≡ Some function
+    pub leads : LeadsTo program (map (spot_at flow) numbers) (map (spot_at flow) (origin_of flow.graph numbers)) function
+
+  module _ (own : (place number : ℕ) → Has flow.graph place number → (function : ℕ) × (slice_get flow.order.items place ≡ Some function) × In (spot_at flow number) (spots_of [] (body_at program function)))
+      (exists : (place number : ℕ) → Has flow.graph place number → number < length flow.graph.nodes.items) where
+    same_function : (place a b : ℕ) → slice_get flow.order.items place ≡ Some a → slice_get flow.order.items place ≡ Some b → a ≡ b
+    same_function place a b e f = cc
+
+    pub spotted : (numbers : List ℕ) (place : ℕ) → graph.LeadsTo flow.graph numbers place → Spotted numbers place
+    spotted [] place graph.initial = record { function = program.main; named = main; leads = initial }
+    spotted (number ∷ numbers) callee (graph.by_call numbers place number callee leads has calls_it) =
+        let before = spotted numbers place leads in
+        let o = own place number has in
+        let spot = spot_at flow number in
+        let inside : In spot (spots_of [] (body_at program before.function)) = subst (λ f. In spot (spots_of [] (body_at program f))) (same_function place o.0 before.function o.1.0 before.named) o.1.1 in
+        let contains = to_contains spot (spots_of [] (body_at program before.function)) inside in
+        let threads : Bool → List Spot = λ b. map (spot_at flow) (cond b (number ∷ numbers) (origin_of flow.graph numbers)) in
+        elim (deed (act_at program spot.action) (transfer_at flow.graph number) callee (made.acts number (exists place number has)) calls_it) [
+          | calls function arguments result is named creating ↦ record {
+            function = function;
+            named = named;
+            leads = subst (λ l. LeadsTo program (spot ∷ map (spot_at flow) numbers) l function) (sym (ap threads creating))
+                (by_call (map (spot_at flow) numbers) (map (spot_at flow) (origin_of flow.graph numbers)) before.function spot function arguments result before.leads contains is);
+          }
+          | starts object argument function result is named creating ↦ record {
+            function = function;
+            named = named;
+            leads = subst (λ l. LeadsTo program (spot ∷ map (spot_at flow) numbers) l function) (sym (ap threads creating))
+                (by_creation (map (spot_at flow) numbers) (map (spot_at flow) (origin_of flow.graph numbers)) before.function spot function object argument result before.leads contains is);
+          }
+        ]
