@@ -1,0 +1,9 @@
+pub mod WrongOwner
+pub mod WaitingCycle
+pub mod Racing
+pub mod LockedPoints
+pub mod LockedNames
+pub mod LockedStates
+pub mod LockedOrder
+pub mod LockedExact
+pub mod LockedClean
