@@ -5,7 +5,6 @@ use Rattle.pointer_targets.specs.Candidates.{NamesAreSound}
 use Rattle.pointer_targets.proofs.Told.{Told, told, ObjectsAreStatic, are_static}
 use Rattle.static_facts.specs.Facts.{Facts}
 use Rattle.guideline_findings.specs.Silence.{HasCleanText}
-use Rattle.guideline_findings.specs.Texts.{IsOfText}
 use Rattle.guideline_findings.proofs.CleanText.{no_local_library}
 
 pub record Premises (program : Program) (facts : Facts) : Type 0 where
@@ -16,5 +15,5 @@ pub record Premises (program : Program) (facts : Facts) : Type 0 where
 abbrev pub Given : Program → Facts → Type 0
 Given program facts = HasCleanText program facts → Premises program facts
 
-pub given : (program : Program) → IsWellFormed program → IsOfText program → (facts : Facts) → NamesAreSound program facts.names → Given program facts
-given program well text facts sound clean = record { names = told program well facts.names sound; static = are_static program well (no_local_library program facts text clean) }
+pub given : (program : Program) → IsWellFormed program → (facts : Facts) → NamesAreSound program facts.names → Given program facts
+given program well facts sound clean = record { names = told program well facts.names sound; static = are_static program well (no_local_library program facts well clean) }

@@ -25,12 +25,11 @@ use Rattle.static_facts.proofs.Reaching.{reachable}
 use Rattle.static_facts.specs.Analyses.{AreSound}
 use Rattle.pointer_targets.specs.LibraryObjects.{type_of_sort, LeadsToObject}
 use Rattle.pointer_targets.proofs.Told.{told, are_static}
-use Rattle.guideline_findings.specs.Texts.{IsOfText}
 use Rattle.guideline_findings.proofs.Firsts.{clean_text}
 use Rattle.guideline_findings.proofs.CleanText.{no_local_library}
 use Rattle.static_facts.specs.Candidates.{releases_thread}
 
-module _ (program : Program) (well : IsWellFormed program) (text : IsOfText program) (facts : Facts) (sound : AreSound program facts) (clean : IsClean program facts R22_11)
+module _ (program : Program) (well : IsWellFormed program) (facts : Facts) (sound : AreSound program facts) (clean : IsClean program facts R22_11)
     (run : List Choice) (good : IsGoodRun program run) (choice : Choice) where
   abbrev state : State
   state = state_after program run
@@ -72,7 +71,7 @@ module _ (program : Program) (well : IsWellFormed program) (text : IsOfText prog
       }
 
       found : (location : Location) × (location_of program cell ≡ Some location)
-      found = are_static program well (no_local_library program facts text (clean_text program facts R22_11 refl clean)) run choice.thread (stands_at thread control move) A_thread 0 cell good lead
+      found = are_static program well (no_local_library program facts well (clean_text program facts R22_11 refl clean)) run choice.thread (stands_at thread control move) A_thread 0 cell good lead
 
   initial : ((choice.thread == 0) ≡ false → ⊥) → choice.thread ≡ 0
   initial n = go (choice.thread == 0) refl
@@ -98,5 +97,5 @@ module _ (program : Program) (well : IsWellFormed program) (text : IsOfText prog
       go (Some x) s n = absurd (let q = n.1 in cc)
   by_main _ w e = absurd (cc)
 
-pub only_main : (program : Program) → IsWellFormed program → IsOfText program → (facts : Facts) → AreSound program facts → OnlyMainReleases program facts
-only_main program well text facts sound clean run good choice request q e = by_main program well text facts sound clean run good choice request (by_a_move program (state_after program run) choice request q) e
+pub only_main : (program : Program) → IsWellFormed program → (facts : Facts) → AreSound program facts → OnlyMainReleases program facts
+only_main program well facts sound clean run good choice request q e = by_main program well facts sound clean run good choice request (by_a_move program (state_after program run) choice request q) e

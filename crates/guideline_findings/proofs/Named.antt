@@ -9,10 +9,10 @@ use Rattle.c_program.specs.declared.program.Object.{Object}
 use Rattle.c_program.specs.declared.program.Program.{Program}
 use Rattle.c_program.specs.Syntax.{act_at, object_at}
 use Rattle.c_program.specs.Types.{is_declared, holds_library}
+use Rattle.c_program.specs.WellFormed.{IsWellFormed, if_there, is_touch, declares_object, declares_named, has_touch, holds_only_for_touch}
 use Rattle.c_program.proofs.Cells.{and_true}
 use Rattle.pointer_targets.proofs.Opening.{each_member}
-use Rattle.guideline_findings.specs.Text.{is_touch, IsTouch, declares_object}
-use Rattle.guideline_findings.specs.Texts.{declares_named, has_touch, holds_only_for_touch, IsOfText}
+use Rattle.guideline_findings.specs.Text.{IsTouch}
 
 pub record FoundOne {A : Type 0} (test : A → Bool) (xs : List A) : Type 0 where
   pub number : ℕ
@@ -47,15 +47,15 @@ touch_of program object e d h = touched (go (is_declared object) (holds_library 
         (f.number, subst (λ (o : Option Action). is_touch (unwrap_or (option_map (λ (action : Action). action.act) o) Turn) ≡ true) (sym f.has) f.holds)
 
 -- what an action declares has a name
-pub named : (program : Program) → IsOfText program → (action object : ℕ) → declares_object (act_at program action) ≡ Some object → (o : Object) → object_at program object ≡ Some o → is_declared o ≡ true
+pub named : (program : Program) → IsWellFormed program → (action object : ℕ) → declares_object (act_at program action) ≡ Some object → (o : Object) → object_at program object ≡ Some o → is_declared o ≡ true
 unfolding act_at
-named program text n object e o h = go (slice_get program.actions n) refl e
+named program well n object e o h = go (slice_get program.actions n) refl e
   where
-    of_object : (d : Option ℕ) → d ≡ Some object → unwrap_or (option_map (λ k. unwrap_or (option_map is_declared (object_at program k)) true) d) true ≡ true → is_declared o ≡ true
+    of_object : (d : Option ℕ) → d ≡ Some object → if_there program (λ k. if_there program is_declared (object_at program k)) d ≡ true → is_declared o ≡ true
     of_object None q t = absurd (cc)
     of_object (Some k) q t = let s : k ≡ object = cc in
-        subst (λ (x : Option Object). unwrap_or (option_map is_declared x) true ≡ true) (ap (object_at program) s ∙ h) t
+        subst (λ (x : Option Object). if_there program is_declared x ≡ true) (ap (object_at program) s ∙ h) t
 
     go : (found : Option Action) → slice_get program.actions n ≡ found → declares_object (unwrap_or (option_map (λ (action : Action). action.act) found) Turn) ≡ Some object → is_declared o ≡ true
     go None q e = absurd (cc)
-    go (Some action) q e = of_object (declares_object action.act) e (each_member program.actions n action (declares_named program) text.declarations q)
+    go (Some action) q e = of_object (declares_object action.act) e (each_member program.actions n action (λ (a : Action). declares_named program a.act) well.declarations q)

@@ -13,18 +13,17 @@ use Rattle.static_facts.specs.Depths.{MayHold}
 use Rattle.static_facts.specs.Facts.{Facts}
 use Rattle.guideline_findings.specs.Findings.{kept_at_end, destroyed, given_up, locked_again, own, is_semantic, IsClean}
 use Rattle.guideline_findings.specs.Silence.{IsSilent}
-use Rattle.guideline_findings.specs.Texts.{IsOfText}
 use Rattle.guideline_findings.proofs.Firsts.{clean_text}
 use Rattle.guideline_findings.proofs.CleanText.{no_local_library}
 use Rattle.guideline_findings.proofs.SilenceOfUnlocks.{silent_17}
 use Rattle.guideline_findings.proofs.SilenceOfLocks.{held_reachable, silent_16, silent_18}
 
-module _ (program : Program) (well : IsWellFormed program) (text : IsOfText program) (facts : Facts) (sound : NamesAreSound program facts.names) where
+module _ (program : Program) (well : IsWellFormed program) (facts : Facts) (sound : NamesAreSound program facts.names) where
   given : Told program facts.names
   given = told program well facts.names sound
 
   static : (guideline : Guideline) → is_semantic guideline ≡ true → IsClean program facts guideline → ObjectsAreStatic program
-  static guideline semantic clean = are_static program well (no_local_library program facts text (clean_text program facts guideline semantic clean))
+  static guideline semantic clean = are_static program well (no_local_library program facts well (clean_text program facts guideline semantic clean))
 
   held : {thread : List Spot} {point : Point} {mutex : Location} {depth : ℕ} → MayHold program facts.names mutex thread point depth → IsReachable program thread point
   held h = held_reachable program facts.names _ _ _ h.0 h.1

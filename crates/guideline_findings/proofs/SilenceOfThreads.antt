@@ -16,19 +16,18 @@ use Rattle.pointer_targets.proofs.Told.{Told, told, ObjectsAreStatic, are_static
 use Rattle.static_facts.specs.Facts.{Facts}
 use Rattle.static_facts.specs.Analyses.{AreSound}
 use Rattle.guideline_findings.specs.Silence.{IsSilent}
-use Rattle.guideline_findings.specs.Texts.{IsOfText}
 use Rattle.guideline_findings.proofs.Firsts.{clean_text}
 use Rattle.guideline_findings.proofs.CleanText.{no_local_library}
 
 pub silent_creations : (program : Program) → IsWellFormed program → (facts : Facts) → IsSilent program facts D5_3
 silent_creations program well facts clean = silent_5_3 program well (none_outside program facts clean) (none_repeated program facts clean)
 
-module _ (program : Program) (well : IsWellFormed program) (text : IsOfText program) (facts : Facts) (sound : AreSound program facts) where
+module _ (program : Program) (well : IsWellFormed program) (facts : Facts) (sound : AreSound program facts) where
   given : Told program facts.names
   given = told program well facts.names sound.names
 
   pub static : (guideline : Guideline) → is_semantic guideline ≡ true → IsClean program facts guideline → ObjectsAreStatic program
-  static guideline semantic clean = are_static program well (no_local_library program facts text (clean_text program facts guideline semantic clean))
+  static guideline semantic clean = are_static program well (no_local_library program facts well (clean_text program facts guideline semantic clean))
 
   -- ---- lives
 

@@ -19,17 +19,16 @@ use Rattle.c_program.specs.Requests.{Request, Touches, Weakens, Declares, Retake
 use Rattle.c_program.specs.Faults.{is_thread_library, has_thread_library, weakens, touches, declares}
 use Rattle.c_program.specs.Step.{Choice}
 use Rattle.c_program.specs.Runs.{state_after}
-use Rattle.c_program.specs.WellFormed.{IsWellFormed, is_automatic, act_is_known}
+use Rattle.c_program.specs.WellFormed.{IsWellFormed, is_automatic, is_touch, declares_object, act_is_known}
 use Rattle.c_program.specs.Laws.{Names as RequestNames, NamesAt, IsRequestBy}
 use Rattle.c_program.proofs.Asking.{by_a_move}
 use Rattle.c_program.proofs.Cells.{and_true}
 use Rattle.c_program.proofs.Offering.{act_known}
 use Rattle.static_facts.specs.Facts.{Facts}
 use Rattle.guideline_findings.proofs.Named.{named}
-use Rattle.guideline_findings.specs.Text.{declares_object, is_weak, is_touch, HoldsLibrary}
+use Rattle.guideline_findings.specs.Text.{is_weak, HoldsLibrary}
 use Rattle.guideline_findings.specs.Findings.{weak_order, touch, automatic, thread_storage, own}
 use Rattle.guideline_findings.specs.Silence.{IsSilent}
-use Rattle.guideline_findings.specs.Texts.{IsOfText}
 
 module _ (program : Program) (state : State) (choice : Choice) where
   -- a request that retakes nothing is made outside a wait
@@ -152,15 +151,15 @@ or_cases : (a b : Bool) → (a || b) ≡ true → (a ≡ true) ⊎ (b ≡ true)
 or_cases true b e = inl refl
 or_cases false b e = inr e
 
-pub silent_objects : (program : Program) → IsWellFormed program → IsOfText program → (facts : Facts) → IsSilent program facts R22_13
-silent_objects program well text facts clean [] r b = b
-silent_objects program well text facts clean (choice ∷ run) r b = elim (or_cases _ _ b.2) [
+pub silent_objects : (program : Program) → IsWellFormed program → (facts : Facts) → IsSilent program facts R22_13
+silent_objects program well facts clean [] r b = b
+silent_objects program well facts clean (choice ∷ run) r b = elim (or_cases _ _ b.2) [
   | inl d ↦ (
       let e = is_declaring b.0 d in
       let q = by_a_move program (state_after program run) choice b.0 b.1 in
       let o = declared program (here program (state_after program run) choice.thread) refl (act_at program q.move.action) (act_known program well q.move.action)
       (subst (RequestNames (here program (state_after program run) choice.thread) (act_at program q.move.action)) e
       (named_so program (state_after program run) choice b.0 (λ m z f. absurd (let g : Declares ≡ Retakes m z = sym e ∙ f in cc)) q)) in
-      clean _ _ _ _ (own _ _ _ _ (automatic o.found.object (named program text q.move.action o.number o.declares o.found.object o.found.has) o.found.holds)))
+      clean _ _ _ _ (own _ _ _ _ (automatic o.found.object (named program well q.move.action o.number o.declares o.found.object o.found.has) o.found.holds)))
   | inr n ↦ (let o = thread_object program (and_true _ _ n).1 in clean _ _ _ _ (own _ _ _ _ (thread_storage o.0 o.1)))
 ]

@@ -1,5 +1,5 @@
 -- What a guideline without a finding says of points, lives and thread states, in the words of their definitions.
-use Rattle.std.proofs.Common.{◌≡◌, ◌≢◌, ◌⊎◌, inl, inr, refl, sym, subst, ◌∙◌, Bool, true, false, List, [], Option, Some, None}
+use Rattle.std.proofs.Common.{◌≡◌, ◌≢◌, ◌⊎◌, inl, inr, refl, sym, subst, ◌∙◌, Bool, true, false, ℕ, List, [], Option, Some, None}
 use Rattle.misra_base.specs.declared.guideline.Guideline.{Guideline}
 use Rattle.misra_base.specs.declared.guideline.Guideline.TheVariants.{D5_3, R22_11, R22_14, R22_15, R22_20}
 use Rattle.c_program.specs.declared.program.Program.{Program}
@@ -9,6 +9,8 @@ use Rattle.c_program.specs.Faults.{Sort, A_mutex, A_condition, A_key, A_thread, 
 use Rattle.c_program.specs.Paths.{IsPoint}
 use Rattle.c_program.specs.WellFormed.{IsWellFormed}
 use Rattle.pointer_targets.specs.Names.{Names}
+use Rattle.pointer_targets.specs.LibraryObjects.{IsLocationOf}
+use Rattle.static_facts.specs.Candidates.{IsCandidate}
 use Rattle.guideline_findings.specs.Threads.{CreatesOutside, CreatesRepeatedly, Releases, ReleasesOutside}
 use Rattle.guideline_findings.specs.Lives.{Accesses, IsUseOrEnd, IsOutside, MayRunOf}
 use Rattle.guideline_findings.specs.Findings.{rule_of_sort, HasLife, IsClean, own, creation_outside, creation_repeated, joined_again, joined_outside, before, second, made_outside, dead, busy, destroyed_outside}
@@ -93,25 +95,29 @@ module _ (program : Program) (well : IsWellFormed program) (facts : Facts) (soun
   point_of : (thread : List Spot) (point : Point) → IsReachable program thread point → IsPoint program thread point
   point_of thread point r = reached_point program well thread r.function point r.leads r.reached
 
+  -- a candidate is at a location of its sort
+  location_of : {point : Point} {argument : ℕ} {sort : Sort} {location : Location} → IsCandidate program facts.names point argument sort location → IsLocationOf program sort location
+  location_of c = record { cell = c.cell; here = c.here; of_sort = c.of_sort }
+
   pub no_release : IsClean program facts R22_11 → NoRelease program facts.names
   no_release clean = record {
-    again = λ thread point object r m. clean _ _ _ _ (own _ _ _ _ (joined_again thread point object (record { releases = r; was = again thread point object (point_of thread point r.reachable) m })));
+    again = λ thread point object r m. clean _ _ _ _ (own _ _ _ _ (joined_again thread point object (record { releases = r; was = again thread point object (point_of thread point r.reachable) (location_of r.candidate) m })));
     outside = λ thread point object r. clean _ _ _ _ (own _ _ _ _ (joined_outside thread point object r));
   }
     where
-      again : (thread : List Spot) (point : Point) (object : Location) → IsPoint program thread point
+      again : (thread : List Spot) (point : Point) (object : Location) → IsPoint program thread point → IsLocationOf program A_thread object
           → MayBe program facts.names object thread point Is_joined ⊎ MayBe program facts.names object thread point Is_detached
           → ThreadMayBe facts thread point object Is_joined ⊎ ThreadMayBe facts thread point object Is_detached
-      again thread point object p (inl m) = inl (sound.thread_may_be thread point object Is_joined p m)
-      again thread point object p (inr m) = inr (sound.thread_may_be thread point object Is_detached p m)
+      again thread point object p at (inl m) = inl (sound.thread_may_be thread point object Is_joined p at m)
+      again thread point object p at (inr m) = inr (sound.thread_may_be thread point object Is_detached p at m)
 
   -- the rules on lives, by the rule of a sort
   of_rule : (rule : Guideline) (keys : Bool) → ((sort : Sort) → IsNoThread sort → is_key sort ≡ keys → rule_of_sort sort ≡ Some rule) → IsClean program facts rule → NoLife program facts.names keys
   of_rule rule keys by clean = record {
     before = λ sort n k how u thread point object a m. clean _ _ _ _ (own _ _ _ _ (before rule sort (by sort n k) thread point object
-        (record { how = how; is_late = u; accesses = a; unmade = sound.life_may_be thread point sort object Is_unmade (point_of thread point a.reachable) n m })));
+        (record { how = how; is_late = u; accesses = a; unmade = sound.life_may_be thread point sort object Is_unmade (point_of thread point a.reachable) n (location_of a.takes.candidate) m })));
     second = λ sort n k thread point object a m. clean _ _ _ _ (own _ _ _ _ (second rule sort (by sort n k) thread point object
-        (record { accesses = a; alive = sound.life_may_be thread point sort object Is_live (point_of thread point a.reachable) n m })));
+        (record { accesses = a; alive = sound.life_may_be thread point sort object Is_live (point_of thread point a.reachable) n (location_of a.takes.candidate) m })));
     outside = λ sort n k thread point object o. clean _ _ _ _ (own _ _ _ _ (made_outside rule sort (by sort n k) thread point object o));
   }
 
@@ -130,13 +136,13 @@ module _ (program : Program) (well : IsWellFormed program) (facts : Facts) (soun
     never_dead object _ _ _ e (along q state s m) = subst (IsStateOf A_thread) e s
     never_dead object _ _ _ e (made_so t q state s m) = subst (IsStateOf A_thread) e s
 
-    settled : (object : Location) → facts.thread_may_be [] point object Is_live ≡ false → facts.thread_may_be [] point object Is_detached ≡ false
+    settled : (object : Location) → IsLocationOf program A_thread object → facts.thread_may_be [] point object Is_live ≡ false → facts.thread_may_be [] point object Is_detached ≡ false
         → IsSettled program facts.names object point
-    settled object l d Is_unmade m = inl refl
-    settled object l d Is_joined m = inr refl
-    settled object l d Is_live m = absurd (true_false _ (sound.thread_may_be [] point object Is_live p m) l)
-    settled object l d Is_detached m = absurd (true_false _ (sound.thread_may_be [] point object Is_detached p m) d)
-    settled object l d Is_dead m = absurd (never_dead object [] point Is_dead refl m)
+    settled object at l d Is_unmade m = inl refl
+    settled object at l d Is_joined m = inr refl
+    settled object at l d Is_live m = absurd (true_false _ (sound.thread_may_be [] point object Is_live p at m) l)
+    settled object at l d Is_detached m = absurd (true_false _ (sound.thread_may_be [] point object Is_detached p at m) d)
+    settled object at l d Is_dead m = absurd (never_dead object [] point Is_dead refl m)
 
     may_run : (plain : Option Location) → facts.plain_object thread ≡ plain → MayRunOf facts point plain
     may_run None e = tt
@@ -146,12 +152,12 @@ module _ (program : Program) (well : IsWellFormed program) (facts : Facts) (soun
             → ThreadMayBe facts [] point object Is_live ⊎ ThreadMayBe facts [] point object Is_detached
         go true l detached d = inl l
         go false l true d = inr d
-        go false l false d = absurd (unsettled (record { object = object; is_plain = sound.plain thread object e; settled = settled object l d }))
+        go false l false d = (let plain = sound.plain thread object e in absurd (unsettled (record { object = object; is_plain = plain; settled = settled object plain.plain.of_thread l d })))
 
   pub no_end : IsClean program facts R22_15 → NoEnd program facts.names
   no_end clean = record {
     dead = λ sort n how u thread point object a m. clean _ _ _ _ (own _ _ _ _ (dead sort (has_life sort n) thread point object
-        (record { how = how; is_late = u; accesses = a; dead = sound.life_may_be thread point sort object Is_dead (point_of thread point a.reachable) n m })));
+        (record { how = how; is_late = u; accesses = a; dead = sound.life_may_be thread point sort object Is_dead (point_of thread point a.reachable) n (location_of a.takes.candidate) m })));
     busy = λ sort n point object e thread c other how a u. clean _ _ _ _ (own _ _ _ _ (busy sort (has_life sort n) point object (record {
       destroys = e;
       thread = thread;

@@ -69,5 +69,7 @@ is_well_formed = record {
   timespec = refl;
   main = refl;
   typed = refl;
+  declarations = refl;
+  fresh = refl;
   counts = counts;
 }

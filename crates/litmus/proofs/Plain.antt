@@ -9,7 +9,7 @@ use Rattle.c_program.specs.declared.program.Program.{Program}
 use Rattle.c_program.specs.Syntax.{Not, After, If, Loop, Counted, body_at}
 use Rattle.c_program.specs.Counters.{Counts, CountsAll, CountsCondition, CountsConditions, has_few_turns, all_have_few_turns, condition_has_few_turns, conditions_have_few_turns}
 use Rattle.c_program.specs.Typing.{is_typed}
-use Rattle.c_program.specs.WellFormed.{IsWellFormed, all_differ, text_actions, fits, body_leads_on, object_is_known, function_is_known, act_is_known, structures_marked, starts_with_timespec, takes}
+use Rattle.c_program.specs.WellFormed.{IsWellFormed, all_differ, text_actions, fits, body_leads_on, object_is_known, function_is_known, act_is_known, structures_marked, starts_with_timespec, takes, declares_named, holds_only_for_touch}
 use Rattle.c_program.proofs.Cells.{and_true}
 
 abbrev mutual
@@ -112,11 +112,12 @@ is_plain program =
     && list_all (body_leads_on program) program.functions)))
     && ((list_all (object_is_known program) program.objects && (list_all (function_is_known program) program.functions && list_all (λ action. act_is_known program action.act) program.actions))
     && ((structures_marked program 0 program.structures && (starts_with_timespec program program.structures && takes program program.main 0))
-    && (is_typed program && list_all (λ f. has_no_counter f.body) program.functions)))
+    && ((is_typed program && (list_all (λ action. declares_named program action.act) program.actions && list_all (holds_only_for_touch program) program.objects))
+    && list_all (λ f. has_no_counter f.body) program.functions)))
 
 pub plain : (program : Program) → is_plain program ≡ true → IsWellFormed program
 plain program h = let p = and_true _ _ h in let a = and_true _ _ p.0 in let b = and_true _ _ a.1 in let c = and_true _ _ b.1 in
-    let q = and_true _ _ p.1 in let d = and_true _ _ q.0 in let e = and_true _ _ d.1 in let r = and_true _ _ q.1 in let f = and_true _ _ r.0 in let g = and_true _ _ f.1 in let i = and_true _ _ r.1 in record {
+    let q = and_true _ _ p.1 in let d = and_true _ _ q.0 in let e = and_true _ _ d.1 in let r = and_true _ _ q.1 in let f = and_true _ _ r.0 in let g = and_true _ _ f.1 in let i = and_true _ _ r.1 in let j = and_true _ _ i.0 in let k = and_true _ _ j.1 in record {
       differ = a.0;
       numbered = b.0;
       fit = c.0;
@@ -127,7 +128,9 @@ plain program h = let p = and_true _ _ h in let a = and_true _ _ p.0 in let b = 
       structures = f.0;
       timespec = g.0;
       main = g.1;
-      typed = i.0;
+      typed = j.0;
+      declarations = k.0;
+      fresh = k.1;
       counts = record {
         counts = λ n. counts program (body_at program n) (none_in program.functions n i.1);
         few = λ n. few 1 (body_at program n) (none_in program.functions n i.1);

@@ -72,6 +72,8 @@ is_well_formed = record {
   main = refl;
   counts = record { counts = counts; few = few };
   typed = refl;
+  declarations = refl;
+  fresh = refl;
 }
 
 abbrev m : Place

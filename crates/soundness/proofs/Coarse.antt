@@ -22,7 +22,6 @@ use Rattle.static_facts.specs.Analyses.{AreSound}
 use Rattle.soundness.proofs.AllSilence.{silent}
 use Rattle.static_facts.specs.Points.{is_creation}
 use Rattle.guideline_findings.specs.Silence.{HasCleanText}
-use Rattle.guideline_findings.specs.Texts.{IsOfText}
 
 is_initial : List Spot → Bool
 is_initial [] = true
@@ -56,9 +55,9 @@ module _ (program : Program) where
     };
     accesses = λ thread point region manner is c. refl;
     ordered = λ s t p q first second e. let b = and_true (is_initial s) (is_initial t) e in both_initial s t p q (initial s b.0) (initial t b.1);
-    thread_may_be = λ thread point object state is c. refl;
+    thread_may_be = λ thread point object state is at c. refl;
     plain = λ thread object e. absurd (cc);
-    life_may_be = λ thread point sort location state is n c. refl;
+    life_may_be = λ thread point sort location state is n at c. refl;
   }
 
 -- ---- a program of one thread
@@ -93,5 +92,5 @@ module _ (program : Program) (alone : (action : ℕ) → is_creation (act_at pro
   clean text place subject k other (dependent _ semantic f) = text place f.found
 
   -- a program of one thread has no race
-  pub no_race : IsWellFormed program → IsOfText program → HasCleanText program coarse → (run : List Choice) → IsRun program run → Breaks D5_1 program run → ⊥
-  no_race well text none = silent program well text coarse (coarse_sound program) D5_1 (clean none)
+  pub no_race : IsWellFormed program → HasCleanText program coarse → (run : List Choice) → IsRun program run → Breaks D5_1 program run → ⊥
+  no_race well none = silent program well coarse (coarse_sound program) D5_1 (clean none)

@@ -34,7 +34,6 @@ use Rattle.static_facts.specs.ThreadStates.{MayBe, along, made_outside}
 use Rattle.static_facts.specs.Lives.{MayLive, in_initial, in_created}
 use Rattle.static_facts.specs.Order.{Ordered, in_initial as in_main}
 use Rattle.static_facts.specs.Facts.{Facts}
-use Rattle.guideline_findings.specs.Text.{declares_object}
 use Rattle.pointer_targets.specs.Tellings.{Tells}
 use Rattle.static_facts.specs.Analyses.{AreExact}
 use Rattle.soundness.proofs.AllSilence.{silent as all_silent}
@@ -42,7 +41,6 @@ use Rattle.soundness.proofs.Halves.{sound}
 use Rattle.pointer_targets.specs.Manners.{Manner, MayAccessAt}
 use Rattle.static_facts.specs.Points.{is_creation}
 use Rattle.guideline_findings.specs.Silence.{IsSilent}
-use Rattle.guideline_findings.specs.Texts.{IsOfText}
 
 -- static int x; int main(void) { x = 1; return 0; }
 abbrev writer : Program
@@ -78,6 +76,8 @@ well_formed = record {
   main = refl;
   counts = record { counts = counts; few = few };
   typed = refl;
+  declarations = refl;
+  fresh = refl;
 }
 
 -- ---- its actions: a write, a return, and beyond the table nothing
@@ -130,9 +130,6 @@ none_some x e = absurd (cc)
 
 same_some : {A : Type 0} (a b : A) → Some a ≡ Some b → a ≡ b
 same_some a b e = cc
-
-is_of_text : IsOfText writer
-is_of_text = record { declarations = refl; fresh = refl }
 
 -- ---- its points
 
@@ -365,14 +362,14 @@ exact = record {
     all = λ o. refl;
     only = λ e. subst (λ y. Ordered writer facts.names y p t q) (sym (two s p first).initial) (subst (λ y. Ordered writer facts.names [] p y q) (sym (two t q second).initial) (in_main p q));
   };
-  thread_may_be = λ thread point object state is. record {
+  thread_may_be = λ thread point object state is at. record {
     all = λ m. told_unmade state (may_be_unmade object thread point state m);
     only = λ e. subst (λ y. MayBe writer facts.names object y point state) (sym (two thread point is).initial)
         (subst (λ y. MayBe writer facts.names object [] point y) (is_told state e) (along point Is_unmade tt (unmade A_thread object point (two thread point is).is)));
   };
   plain = λ thread object e. none_some object e;
   all_plain = λ thread object p. true_false (sym p.plain.point.creates ∙ no_creation p.creation.spot.action);
-  life_may_be = λ thread point sort location state is n. record {
+  life_may_be = λ thread point sort location state is n at. record {
     all = λ m. told_unmade state (may_live_unmade sort location thread point state m);
     only = λ e. subst (λ y. MayLive writer facts.names sort location y point state) (sym (two thread point is).initial)
         (subst (λ y. MayLive writer facts.names sort location [] point y) (is_told state e) (in_initial point Is_unmade (unmade_is sort) (unmade sort location point (two thread point is).is)));
@@ -381,4 +378,4 @@ exact = record {
 
 -- so of this program everything follows
 pub silent : (guideline : Guideline) → IsSilent writer facts guideline
-silent guideline = all_silent writer well_formed is_of_text facts (sound writer facts exact) guideline
+silent guideline = all_silent writer well_formed facts (sound writer facts exact) guideline

@@ -11,7 +11,7 @@ sound program facts exact = record {
   };
   accesses = λ thread point region manner is. (exact.accesses thread point region manner is).all;
   ordered = λ s t p q first second. (exact.ordered s t p q first second).only;
-  thread_may_be = λ thread point object state is. (exact.thread_may_be thread point object state is).all;
+  thread_may_be = λ thread point object state is at. (exact.thread_may_be thread point object state is at).all;
   plain = exact.plain;
-  life_may_be = λ thread point sort location state is none. (exact.life_may_be thread point sort location state is none).all;
+  life_may_be = λ thread point sort location state is none at. (exact.life_may_be thread point sort location state is none at).all;
 }

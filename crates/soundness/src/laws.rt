@@ -10,7 +10,6 @@ ghost use Rattle.static_facts.specs.ThreadLaws.{OrderedHappenInOrder, UnmadeIsPo
 ghost use Rattle.guideline_findings.specs.LifeLaws.{DeadWhereClean, LiveWhereClean, OnlyMainReleases, ThreadStatesArePossible};
 ghost use Rattle.static_facts.specs.Facts.{Facts};
 ghost use Rattle.guideline_findings.specs.Silence.{IsSilent};
-ghost use Rattle.guideline_findings.specs.Texts.{IsOfText};
 ghost use Rattle.guideline_findings.specs.WaitingLaws.{EachLinkIsAnEdge, EachWaitingCycleIsOfEdges};
 ghost use Rattle.static_facts.specs.Analyses.{AreExact, AreSound};
 
@@ -50,8 +49,7 @@ pub fn order(program: &Program)
 /// Lives and joins: an object is unmade, live or dead in a run only where it may be so; so is a thread object; and only the
 /// initial thread joins and detaches.
 pub fn lives_and_joins(program: &Program)
-    requires well_formed { IsWellFormed program.now }
-    requires of_text { IsOfText program.now }
+    requires { IsWellFormed program.now }
     ensures unmade { (facts : Facts) → AreSound program.now facts → UnmadeIsPossible program.now facts.names }
     ensures live { (facts : Facts) → AreSound program.now facts → LiveWhereClean program.now facts }
     ensures dead { (facts : Facts) → AreSound program.now facts → DeadWhereClean program.now facts }
@@ -61,16 +59,14 @@ pub fn lives_and_joins(program: &Program)
 
 /// Waiting: where the text is clean, each link of a waiting cycle is an edge of the graph, so such a cycle gives one of edges.
 pub fn waiting(program: &Program)
-    requires well_formed { IsWellFormed program.now }
-    requires of_text { IsOfText program.now }
+    requires { IsWellFormed program.now }
     ensures links { (facts : Facts) → AreSound program.now facts → EachLinkIsAnEdge program.now facts }
     ensures edges { (facts : Facts) → AreSound program.now facts → EachWaitingCycleIsOfEdges program.now facts }
 {}
 
 /// Silence: where a guideline has no finding, no run breaks it, at no step, the last undefined one included.
 pub fn silence(program: &Program)
-    requires well_formed { IsWellFormed program.now }
-    requires of_text { IsOfText program.now }
+    requires { IsWellFormed program.now }
     ensures of_exact { (facts : Facts) → AreExact program.now facts → (guideline : AGuideline) → IsSilent program.now facts guideline }
     ensures of_sound { (facts : Facts) → AreSound program.now facts → (guideline : AGuideline) → IsSilent program.now facts guideline }
 {}

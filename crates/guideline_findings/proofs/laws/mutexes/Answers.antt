@@ -4,7 +4,7 @@ use Rattle.guideline_findings.proofs.ConditionSilence.{silent_conditions}
 use Rattle.guideline_findings.proofs.laws.mutexes.Goals as goal
 
 pub returns-clause-timed : goal.returns-clause-timed
-returns-clause-timed c = λ facts sound. silent_timed c.args.program.now c.requires.well_formed facts (given c.args.program.now c.requires.well_formed c.requires.of_text facts sound)
+returns-clause-timed c = λ facts sound. silent_timed c.args.program.now c.requires facts (given c.args.program.now c.requires facts sound)
 
 pub returns-clause-conditions : goal.returns-clause-conditions
-returns-clause-conditions c = λ facts sound. silent_conditions c.args.program.now c.requires.well_formed facts (given c.args.program.now c.requires.well_formed c.requires.of_text facts sound)
+returns-clause-conditions c = λ facts sound. silent_conditions c.args.program.now c.requires facts (given c.args.program.now c.requires facts sound)

@@ -8,4 +8,4 @@ pub returns-clause-touches : goal.returns-clause-touches
 returns-clause-touches c = λ facts. silent_touches c.args.program.now facts
 
 pub returns-clause-objects : goal.returns-clause-objects
-returns-clause-objects c = λ facts. silent_objects c.args.program.now c.requires.well_formed c.requires.of_text facts
+returns-clause-objects c = λ facts. silent_objects c.args.program.now c.requires facts
