@@ -63,10 +63,46 @@ write_after_own_read = in_thread 12 13 (pair 14 12 13 (omega arith) refl refl) r
 
 pub settled : Settled counting counting_schedule
 unfolding computes
-settled = (inl refl, (inl refl, (inl refl, (inl refl, (inl refl, (inl refl,
-    (inr (write_after_own_read, (write_after_write, (write_after_first_read, tt))),
-    (inr (read_after_write, (read_after_read, tt)),
-    (inl refl, (inl refl, (inl refl, (inl refl,
-    (inr (write_after_read, tt),
-    (inr tt,
-    (inl refl, (inl refl, (inl refl, (inl refl, (inl refl, (inl refl, tt))))))))))))))))))))
+settled = (
+  inl refl,
+  (
+    inl refl,
+    (
+      inl refl,
+      (
+        inl refl,
+        (
+          inl refl,
+          (
+            inl refl,
+            (
+              inr (write_after_own_read, (write_after_write, (write_after_first_read, tt))),
+              (
+                inr (read_after_write, (read_after_read, tt)),
+                (
+                  inl refl,
+                  (
+                    inl refl,
+                    (
+                      inl refl,
+                      (
+                        inl refl,
+                        (
+                          inr (write_after_read, tt),
+                          (
+                            inr tt,
+                            (inl refl, (inl refl, (inl refl, (inl refl, (inl refl, (inl refl, tt)))))),
+                          ),
+                        ),
+                      ),
+                    ),
+                  ),
+                ),
+              ),
+            ),
+          ),
+        ),
+      ),
+    ),
+  ),
+)
