@@ -83,8 +83,8 @@ exact = record {
   names = names;
   accesses = λ thread point region manner is. accesses thread point is region manner;
   ordered = λ s r p q first second. ordered_told s r p q first second;
-  thread_may_be = λ thread point object state is. thread_told thread point object state is;
+  thread_may_be = λ thread point object state is at. thread_told thread point object state is;
   plain = λ thread object e. plain_told thread object e;
   all_plain = λ thread object p. plain_is_told thread object p;
-  life_may_be = λ thread point sort location state is n. lives sort location thread point is state;
+  life_may_be = λ thread point sort location state is n at. lives sort location thread point is state;
 }

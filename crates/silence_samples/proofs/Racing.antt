@@ -1,4 +1,4 @@
--- Whatever the exact answers, Directive 5.1 has a finding where two threads write an object without a lock.
+-- Whatever the sound answers, Directive 5.1 has a finding where two threads write an object without a lock.
 use Rattle.std.proofs.Common.{◌≡◌, ◌∙◌, refl, subst, ap, inl, inr, ℕ, true, false, List, [], ◌∷◌, Some, None}
 use Rattle.misra_base.specs.declared.guideline.Guideline.TheVariants.{D5_1}
 use Rattle.misra_base.specs.declared.kind.Kind.TheVariants as kinds
@@ -22,7 +22,7 @@ use Rattle.static_facts.specs.ObjectPaths.{At, succeeds}
 use Rattle.static_facts.specs.ThreadStates.{MayBe, along}
 use Rattle.static_facts.specs.Order.{IsPlain, IsSettled, Ordered, in_initial, first_initial, second_initial, in_one, apart}
 use Rattle.static_facts.specs.Facts.{Facts}
-use Rattle.static_facts.specs.Analyses.{AreExact}
+use Rattle.static_facts.specs.Analyses.{AreSound}
 use Rattle.guideline_findings.specs.Races.{MayRace}
 use Rattle.guideline_findings.specs.Findings.{Finding, own, race, Named_location}
 use Rattle.litmus.specs.Pieces.{at, x, t, w, main, null}
@@ -101,7 +101,7 @@ writes_in_worker = record {
   region = at_scalar (record { site = Of_all x; path = [] }) (static x) refl (PointsTo.object worker [] x) (record { own = c_int; has_type = refl; is_data = refl }) refl;
 }
 
-module _ (facts : Facts) (exact : AreExact two_writes facts) where
+module _ (facts : Facts) (sound : AreSound two_writes facts) where
   -- before the write in main no mutex is surely held
   held_by_none : (mutex : Location) → MayHold two_writes facts.names mutex [] main_write 0
   unfolding act_at
@@ -172,11 +172,11 @@ module _ (facts : Facts) (exact : AreExact two_writes facts) where
     reachable = main_reachable;
     other_reachable = worker_reachable;
     manner = plain_write;
-    accesses = (exact.accesses [] main_write (static x) plain_write main_point).all writes_in_main;
+    accesses = sound.accesses [] main_write (static x) plain_write main_point writes_in_main;
     other_manner = plain_write;
-    other_accesses = (exact.accesses worker worker_write (static x) plain_write worker_point).all writes_in_worker;
+    other_accesses = sound.accesses worker worker_write (static x) plain_write worker_point writes_in_worker;
     conflict = (refl, refl);
-    unordered = λ e. not_ordered [] worker main_write worker_write refl refl refl ((exact.ordered [] worker main_write worker_write main_point worker_point).only e);
+    unordered = λ e. not_ordered [] worker main_write worker_write refl refl refl (sound.ordered [] worker main_write worker_write main_point worker_point e);
     unlocked = λ share. share.at_first (held_by_none share.mutex);
   }
 

@@ -1,4 +1,4 @@
--- Whatever the exact answers, Directive 5.2 has a finding where `main` owns a mutex and joins a thread that locks it.
+-- Whatever the sound answers, Directive 5.2 has a finding where `main` owns a mutex and joins a thread that locks it.
 use Rattle.std.proofs.Common.{◌≡◌, ◌≢◌, refl, inl, inr, ℕ, ◌<◌, List, [], ◌∷◌, Some, None, arith}
 use Rattle.misra_base.specs.declared.guideline.Guideline.TheVariants.{D5_2}
 use Rattle.misra_base.specs.declared.kind.Kind.TheVariants as kinds
@@ -20,7 +20,7 @@ use Rattle.static_facts.specs.Points.{IsReachable}
 use Rattle.static_facts.specs.Candidates.{IsCandidate}
 use Rattle.static_facts.specs.Depths.{Does_lock, marked, passes, moves}
 use Rattle.static_facts.specs.Facts.{Facts}
-use Rattle.static_facts.specs.Analyses.{AreExact}
+use Rattle.static_facts.specs.Analyses.{AreSound}
 use Rattle.guideline_findings.specs.Ownership.{MayOwn}
 use Rattle.guideline_findings.specs.Graph.{Of_mutex, Of_end, wants_mutex, wants_end, has_mutex, has_end, EdgeAt, Edge}
 use Rattle.guideline_findings.specs.Findings.{Finding, own, cycle, Named_location}
@@ -136,7 +136,7 @@ some_depth = omega arith
 some_thread : worker ≢ []
 some_thread e = cc
 
-module _ (facts : Facts) (exact : AreExact join_of_a_locker facts) where
+module _ (facts : Facts) (sound : AreSound join_of_a_locker facts) where
   -- main owns the mutex where it joins
   main_owns : MayOwn join_of_a_locker facts.names (static m) [] (in_main 5)
   unfolding act_at
@@ -154,7 +154,7 @@ module _ (facts : Facts) (exact : AreExact join_of_a_locker facts) where
           comes = by_move before_create 0 (move 4 before_join) (marked 1 None) (marked 1 None)
               (by_move before_lock 0 (move 3 before_create) (marked 0 None) (marked 1 None)
               (by_move (entered join_of_a_locker main) 0 (move 2 before_lock) (marked 0 None) (marked 0 None) (at_entry (marked 0 None) refl) refl (passes 0 None refl refl))
-              refl (moves 0 1 None Does_lock refl tt ((exact.names.may_name [] (in_main 3) 0 (static m) lock_point).all lock_names) refl))
+              refl (moves 0 1 None Does_lock refl tt (sound.names.may_name [] (in_main 3) 0 (static m) lock_point lock_names) refl))
               refl (passes 1 None refl refl);
           offers = (0, refl);
           here = refl;
@@ -164,13 +164,13 @@ module _ (facts : Facts) (exact : AreExact join_of_a_locker facts) where
   )
 
   mutex_candidate : IsCandidate join_of_a_locker facts.names worker_lock 0 A_mutex (static m)
-  mutex_candidate = record { named = (exact.names.may_name worker worker_lock 0 (static m) worker_point).all other_lock_names; cell = record { root = Static m; path = [] }; here = refl; of_sort = refl }
+  mutex_candidate = record { named = sound.names.may_name worker worker_lock 0 (static m) worker_point other_lock_names; cell = record { root = Static m; path = [] }; here = refl; of_sort = refl }
 
   created : IsCandidate join_of_a_locker facts.names (in_main 4) 0 A_thread (static t)
-  created = record { named = (exact.names.may_name [] (in_main 4) 0 (static t) creation_point).all creation_names; cell = record { root = Static t; path = [] }; here = refl; of_sort = refl }
+  created = record { named = sound.names.may_name [] (in_main 4) 0 (static t) creation_point creation_names; cell = record { root = Static t; path = [] }; here = refl; of_sort = refl }
 
   joined : IsCandidate join_of_a_locker facts.names (in_main 5) 0 A_thread (static t)
-  joined = record { named = (exact.names.may_name [] (in_main 5) 0 (static t) join_point).all join_names; cell = record { root = Static t; path = [] }; here = refl; of_sort = refl }
+  joined = record { named = sound.names.may_name [] (in_main 5) 0 (static t) join_point join_names; cell = record { root = Static t; path = [] }; here = refl; of_sort = refl }
 
   -- main has the mutex and waits for the end, and the thread has its end and waits for the mutex
   forth : EdgeAt join_of_a_locker facts [] (in_main 5) (static t) (Of_mutex (static m)) (Of_end worker)

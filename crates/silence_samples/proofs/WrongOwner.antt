@@ -1,4 +1,4 @@
--- Whatever the exact answers, Rule 22.17 has a finding where a thread unlocks what `main` owns.
+-- Whatever the sound answers, Rule 22.17 has a finding where a thread unlocks what `main` owns.
 use Rattle.std.proofs.Common.{refl, inl, inr, ℕ, List, [], ◌∷◌, Some, None}
 use Rattle.std.specs.Prelude.{pos}
 use Rattle.misra_base.specs.declared.guideline.Guideline.TheVariants.{R22_17}
@@ -20,7 +20,7 @@ use Rattle.pointer_targets.specs.Candidates.{MayName}
 use Rattle.static_facts.specs.Points.{IsReachable}
 use Rattle.static_facts.specs.Depths.{marked, MayHold}
 use Rattle.static_facts.specs.Facts.{Facts}
-use Rattle.static_facts.specs.Analyses.{AreExact}
+use Rattle.static_facts.specs.Analyses.{AreSound}
 use Rattle.guideline_findings.specs.Findings.{Finding, own, given_up, Named_location}
 use Rattle.litmus.specs.Pieces.{at, m, t, w, null}
 use Rattle.silence_samples.specs.Samples.{static, unlock_by_another}
@@ -55,7 +55,7 @@ names_it = record {
   at = refl;
 }
 
-module _ (facts : Facts) (exact : AreExact unlock_by_another facts) where
+module _ (facts : Facts) (sound : AreSound unlock_by_another facts) where
   -- the thread begins without the mutex
   may_be_free : MayHold unlock_by_another facts.names (static m) worker unlock_point 0
   may_be_free = (
@@ -77,7 +77,7 @@ module _ (facts : Facts) (exact : AreExact unlock_by_another facts) where
     argument = 0;
     gives = refl;
     candidate = record {
-      named = (exact.names.may_name worker unlock_point 0 (static m) is_point).all names_it;
+      named = sound.names.may_name worker unlock_point 0 (static m) is_point names_it;
       cell = record { root = Static m; path = [] };
       here = refl;
       of_sort = refl;

@@ -7,16 +7,16 @@ use Rattle.c_program.specs.declared.program.Program.{Program}
 use Rattle.c_program.specs.Values.{Location}
 use Rattle.litmus.specs.Pieces.{m, straight, in_w, in_main, return_0, init, lock, unlock, create}
 use Rattle.static_facts.specs.Facts.{Facts}
-use Rattle.static_facts.specs.Analyses.{AreExact}
+use Rattle.static_facts.specs.Analyses.{AreSound}
 use Rattle.guideline_findings.specs.Findings.{Subject, Finding}
 
 -- the location of a whole object
 abbrev pub static : ℕ → Location
 static object = record { object = object; steps = [] }
 
--- whatever the exact answers, the report has this finding
+-- whatever the answers, as long as they are sound, the report has this finding
 abbrev pub HasFinding : Program → Guideline → Place → Subject → Kind → Option Place → Type 0
-HasFinding program guideline place subject kind other = (facts : Facts) → AreExact program facts → Finding program facts guideline place subject kind other
+HasFinding program guideline place subject kind other = (facts : Facts) → AreSound program facts → Finding program facts guideline place subject kind other
 
 -- w: (void)mtx_unlock(&m);    main: (void)mtx_init(&m, mtx_plain); (void)mtx_lock(&m); (void)thrd_create(&t, w, NULL);
 abbrev pub unlock_by_another : Program

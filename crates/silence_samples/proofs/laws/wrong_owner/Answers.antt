@@ -11,7 +11,7 @@ use Rattle.silence_samples.proofs.WrongOwner.{has_finding}
 use Rattle.silence_samples.proofs.laws.wrong_owner.Goals as goal
 
 pub returns-clause-found : goal.returns-clause-found
-returns-clause-found c = λ facts exact. has_finding facts exact
+returns-clause-found c = λ facts sound. has_finding facts sound
 
 pub returns-clause-run : goal.returns-clause-run
 unfolding computes
