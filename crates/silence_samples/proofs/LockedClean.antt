@@ -14,6 +14,7 @@ use Rattle.c_program.specs.declared.statement.Statement.{Do}
 use Rattle.c_program.specs.Syntax.{act_at}
 use Rattle.c_program.specs.Types.{holds_library}
 use Rattle.c_program.specs.Values.{Static, Location}
+use Rattle.c_program.specs.WellFormed.{IsWellFormed, is_touch}
 use Rattle.c_program.specs.Control.{Control, Run, Move, Spot, Point, move_at, goes_on, entered}
 use Rattle.c_program.specs.Faults.{Sort, A_mutex, A_condition, A_key, A_thread}
 use Rattle.c_program.specs.Paths.{LeadsTo, IsPoint, stands_at}
@@ -25,7 +26,7 @@ use Rattle.static_facts.specs.Depths.{Doing, Does_lock, Does_try, doing_of, Mark
 use Rattle.static_facts.specs.Facts.{Facts}
 use Rattle.static_facts.proofs.Reached.{reached_point}
 use Rattle.guideline_findings.specs.Races.{MayRace, ShareMutex}
-use Rattle.guideline_findings.specs.Text.{is_weak, is_touch, HoldsLibrary}
+use Rattle.guideline_findings.specs.Text.{is_weak, HoldsLibrary}
 use Rattle.guideline_findings.specs.Findings
 use Rattle.guideline_findings.specs.Findings.{Found, Subject, rule_of_sort, of_text, own, dependent, IsFoundInText, IsClean}
 use Rattle.guideline_findings.specs.Silence.{HasCleanText}
@@ -80,7 +81,7 @@ record IsHeld (control : Control) (mark : Mark) : Type 0 where
   stands : Standing control number
   held : number ≡ 7 → mark.depth ≡ 0 → ⊥
 
-entry_is_not : 4 ≡ 7 → ⊥
+entry_is_not : ◌≡◌ {A = ℕ} 4 7 → ⊥
 entry_is_not e = omega arith
 
 comes_held : (control : Control) (mark : Mark) → Comes locked_writes (depths locked_writes locked_facts.names (static m)) [] 1 control mark → IsHeld control mark
@@ -147,7 +148,7 @@ record IsHeldThere (control : Control) (mark : Mark) : Type 0 where
   stands : Working control number
   held : number ≡ 1 → mark.depth ≡ 0 → ⊥
 
-start_is_not : 0 ≡ 1 → ⊥
+start_is_not : ◌≡◌ {A = ℕ} 0 1 → ⊥
 start_is_not e = omega arith
 
 comes_there : (control : Control) (mark : Mark) → Comes locked_writes (depths locked_writes locked_facts.names (static m)) worker 0 control mark → IsHeldThere control mark
@@ -189,8 +190,12 @@ apart _ _ _ _ in_main in_worker unordered unlocked = unlocked (shared [] (at [] 
 apart _ _ _ _ in_worker in_main unordered unlocked = unlocked (shared worker (at worker 1) [] (at [] 7) held_in_worker held_in_main)
 apart _ _ _ _ in_worker in_worker unordered unlocked = unordered refl
 
+well_formed : IsWellFormed locked_writes
+unfolding act_at
+well_formed = plain locked_writes refl
+
 no_race : (s : List Spot) (p : Point) (region : Location) (r : List Spot) (q : Point) → MayRace locked_writes locked_facts s p region r q → ⊥
-no_race s p region r q a = let well = plain locked_writes refl in
+no_race s p region r q a = let well = well_formed in
     let is = reached_point locked_writes well s a.reachable.function p a.reachable.leads a.reachable.reached in
     let other = reached_point locked_writes well r a.other_reachable.function q a.other_reachable.leads a.other_reachable.reached in
     apart s p r q (written s p is region a.manner a.accesses) (written r q other region a.other_manner a.other_accesses) a.unordered a.unlocked

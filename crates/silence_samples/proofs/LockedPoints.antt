@@ -31,7 +31,7 @@ false_true e = absurd (cc)
 
 pub main_cases : (P : Spot → Type 0) → P (spot 4) → P (spot 5) → P (spot 6) → P (spot 7) → P (spot 8) → P (spot 9)
     → (s : Spot) → Contains (spots_of [] (body_at locked_writes 1)) s → P s
-main_cases P p4 p5 p6 p7 p8 p9 s has = go (from_contains _ _ has)
+main_cases P p4 p5 p6 p7 p8 p9 s has = go (from_contains s (spots_of [] (body_at locked_writes 1)) has)
   where
     go : In s (spots_of [] (body_at locked_writes 1)) → P s
     go (inl q) = subst P q p4
@@ -43,7 +43,7 @@ main_cases P p4 p5 p6 p7 p8 p9 s has = go (from_contains _ _ has)
     go (inr (inr (inr (inr (inr (inr q)))))) = absurd q
 
 pub worker_cases : (P : Spot → Type 0) → P (spot 0) → P (spot 1) → P (spot 2) → P (spot 3) → (s : Spot) → Contains (spots_of [] (body_at locked_writes 0)) s → P s
-worker_cases P p0 p1 p2 p3 s has = go (from_contains _ _ has)
+worker_cases P p0 p1 p2 p3 s has = go (from_contains s (spots_of [] (body_at locked_writes 0)) has)
   where
     go : In s (spots_of [] (body_at locked_writes 0)) → P s
     go (inl q) = subst P q p0
