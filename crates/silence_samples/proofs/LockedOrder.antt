@@ -134,10 +134,10 @@ tail_of (piece ∷ rest) = rest
 tail_of [] = []
 
 none_in : {A : Type 0} {C : Type 0} (x : A) → Contains [] x → C
-none_in x has = absurd (from_contains _ _ has)
+none_in x has = absurd (from_contains x [] has)
 
 opened : (control : Control) (k : ℕ) → Standing control k → (next : Control) → Contains (head_parts control) next → IsStanding next
-opened _ _ s4 next has = go (from_contains _ _ has)
+opened _ _ s4 next has = go (from_contains next (r4 ∷ []) has)
   where
     go : In next (r4 ∷ []) → IsStanding next
     go (inl q) = subst IsStanding q (record { number = 4; stands = t4 })
