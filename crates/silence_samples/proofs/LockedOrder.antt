@@ -260,7 +260,7 @@ ordered_all _ _ _ _ (first_initial creation object a b plain settled) first seco
 ordered_all _ _ _ _ (second_initial creation object a b plain settled) first second =
     unsettled object (named_thread creation object (only_creation [] creation plain.point).1 plain.exact) b second settled
 ordered_all _ _ _ _ (in_one creation object a b plain) first second = refl
-ordered_all _ _ _ _ (apart one other u v a b plain also settled too) first second = refl
+ordered_all _ _ _ _ (apart first_creation other_creation u v a b plain also settled too) first second = refl
 
 ordered_only : (s r : List Spot) (p q : Point) → (s ≡ []) ⊎ (s ≡ worker) → (r ≡ []) ⊎ (r ≡ worker) → are_ordered s p r q ≡ true → Ordered locked_writes locked_facts.names s p r q
 ordered_only s r p q (inl e) (inl f) o = subst (λ x. Ordered locked_writes locked_facts.names x p r q) (sym e) (subst (λ y. Ordered locked_writes locked_facts.names [] p y q) (sym f) (in_initial p q))
