@@ -190,7 +190,7 @@ apart _ _ _ _ in_main in_worker unordered unlocked = unlocked (shared [] (at [] 
 apart _ _ _ _ in_worker in_main unordered unlocked = unlocked (shared worker (at worker 1) [] (at [] 7) held_in_worker held_in_main)
 apart _ _ _ _ in_worker in_worker unordered unlocked = unordered refl
 
-well_formed : IsWellFormed locked_writes
+pub well_formed : IsWellFormed locked_writes
 unfolding act_at
 well_formed = plain locked_writes refl
 
