@@ -15,7 +15,7 @@ use Rattle.c_program.proofs.Cells.{and_true, cell_same}
 use Rattle.c_program.proofs.Logic.{not_true}
 use Rattle.litmus.specs.Statements.{KeepsTo}
 use Rattle.litmus.proofs.Ends.{destroys, ends, tries_timed, waits, keeps_plain, keeps_moving}
-use Rattle.litmus.proofs.Made.{is_first, keeps_once}
+use Rattle.litmus.proofs.Made.{or_cases, is_first, keeps_once}
 use Rattle.litmus.proofs.Waits.{all_rest, no_cycle}
 
 abbrev pub at_each : (Choice → List Choice → Bool) → List Choice → Bool
@@ -148,10 +148,6 @@ free thread (Live m) e l = absurd (cc)
 abbrev pub lets_go : Program → Cell → Choice → List Choice → Bool
 lets_go program own choice run = (depth_of choice.thread ((state_after program run).mutex own) == 0)
     || (not (destroys (request_by program (state_after program run) choice)) && not (ends (moment_at program (choice ∷ run) (length run))))
-
-or_cases : {C : Type 0} (a b : Bool) → (a || b) ≡ true → (a ≡ true → C) → (b ≡ true → C) → C
-or_cases true b e f g = f refl
-or_cases false b e f g = g e
 
 same_or_not : {C : Type 0} (b : Bool) → (b ≡ true → C) → (b ≡ false → C) → C
 same_or_not true f g = f refl

@@ -32,15 +32,15 @@ is_first program (Some moment) = not (creates moment.effect.sync) || ((moment.ch
 same : (a b : Moment) → Some a ≡ Some b → a ≡ b
 same a b e = cc
 
-first_or : (a b : Bool) → a ≡ true → (a || b) ≡ true
+pub first_or : (a b : Bool) → a ≡ true → (a || b) ≡ true
 first_or true b e = refl
 first_or false b e = absurd (cc)
 
-second_or : (a b : Bool) → b ≡ true → (a || b) ≡ true
+pub second_or : (a b : Bool) → b ≡ true → (a || b) ≡ true
 second_or true b e = refl
 second_or false b e = e
 
-equal : (n : ℕ) → (n == n) ≡ true
+pub equal : (n : ℕ) → (n == n) ≡ true
 equal n = grind (arith, common_steps)
 
 its_own : (own moment : Moment) (actions : List ℕ) → own ≡ moment → creates moment.effect.sync ≡ true → is_among moment.move.action (creation_of (Some own) actions) ≡ true
@@ -71,7 +71,7 @@ not_both : (b : Bool) → not b ≡ true → b ≡ true → ⊥
 not_both true e f = absurd (cc)
 not_both false e f = absurd (cc)
 
-or_cases : {C : Type 0} (a b : Bool) → (a || b) ≡ true → (a ≡ true → C) → (b ≡ true → C) → C
+pub or_cases : {C : Type 0} (a b : Bool) → (a || b) ≡ true → (a ≡ true → C) → (b ≡ true → C) → C
 or_cases true b e f g = f refl
 or_cases false b e f g = g e
 

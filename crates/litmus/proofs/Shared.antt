@@ -1,6 +1,5 @@
 -- Where each two steps that access shared objects are ordered, there is no data race.
-use Rattle.std.proofs.Common.{◌≡◌, ◌⊎◌, inl, inr, refl, sym, subst, ap, ◌∙◌, Bool, true, false, cond, ◌||◌, ◌==◌, ℕ, List, [], ◌∷◌, length, Option, Some, None, eqb-true, arith}
-use Rattle.std.proofs.lemmas.Grind.{common_steps}
+use Rattle.std.proofs.Common.{◌≡◌, ◌⊎◌, inl, inr, sym, subst, ap, ◌∙◌, Bool, true, false, cond, ◌||◌, ◌==◌, ℕ, List, [], ◌∷◌, length, Option, Some, None, eqb-true}
 use Rattle.std.specs.Prelude.{if◌then◌else◌}
 use Rattle.std.specs.List.{list_any}
 use Rattle.misra_base.specs.declared.guideline.Guideline.TheVariants.{D5_1}
@@ -15,6 +14,7 @@ use Rattle.c_program.specs.Breaks.{Breaks}
 use Rattle.c_program.proofs.Cells.{and_true, root_same}
 use Rattle.c_program.proofs.Logic.{if_cases}
 use Rattle.litmus.specs.Statements.{KeepsTo}
+use Rattle.litmus.proofs.Made.{first_or, second_or, or_cases, equal}
 
 abbrev loads_static : Load → Bool
 loads_static load = static_root load.from.root
@@ -28,18 +28,6 @@ stores_static (Zeroes object) = is_static object
 -- the step may access a static object
 abbrev pub is_shared : Effect → Bool
 is_shared effect = list_any loads_static effect.loads || list_any stores_static effect.stores
-
-first_or : (a b : Bool) → a ≡ true → (a || b) ≡ true
-first_or true b e = refl
-first_or false b e = absurd (cc)
-
-second_or : (a b : Bool) → b ≡ true → (a || b) ≡ true
-second_or true b e = refl
-second_or false b e = e
-
-or_cases : {C : Type 0} (a b : Bool) → (a || b) ≡ true → (a ≡ true → C) → (b ≡ true → C) → C
-or_cases true b e f g = f refl
-or_cases false b e f g = g e
 
 as_static : (a b : Root) → same_root a b ≡ true → static_root b ≡ true → static_root a ≡ true
 as_static a b e s = subst (λ r. static_root r ≡ true) (sym (root_same a b e)) s
@@ -118,9 +106,6 @@ module _ (program : Program) (choice : Choice) (run : List Choice) where
       (λ a f. r.8 (subst (λ (l : List Choice). Before program (choice ∷ run) r.0 (length l)) (sym (its_earlier choice run (outcome_of program choice run) last (at_last ∙ e)))
       (of_all (λ i. Before program (choice ∷ run) i (length run)) program run r.0 r.1 f (shares r.1.effect r.2 r.7.0 r.5) all)))
     where
-      equal : (n : ℕ) → (n == n) ≡ true
-      equal n = grind (arith, common_steps)
-
       at_last : moment_of choice run (outcome_of program choice run) ≡ moment_at program (choice ∷ run) (length run)
       at_last = sym (ap (λ b. cond b (moment_of choice run (outcome_of program choice run)) (moment_at program run (length run))) (equal (length run)))
 

@@ -1,5 +1,5 @@
 -- Directive 5.1 has no finding in the locked text: its two writes hold the mutex.
-use Rattle.std.proofs.Common.{◌≡◌, refl, sym, subst, ap, ◌∙◌, Bool, true, false, not, ◌&&◌, ◌||◌, ℕ, zero, suc, min, List, [], ◌∷◌, Option, Some, None, arith}
+use Rattle.std.proofs.Common.{◌≡◌, refl, sym, subst, ap, ◌∙◌, Bool, true, false, not, ◌&&◌, ◌||◌, ℕ, zero, suc, min, List, [], ◌∷◌, Option, Some, arith}
 use Rattle.std.proofs.lemmas.Grind.{common_steps}
 use Rattle.std.specs.Prelude.{slice_get}
 use Rattle.misra_base.specs.declared.guideline.Guideline.{Guideline}
@@ -17,28 +17,23 @@ use Rattle.c_program.specs.Values.{Static, Location}
 use Rattle.c_program.specs.WellFormed.{IsWellFormed, is_touch}
 use Rattle.c_program.specs.Control.{Control, Run, Move, Spot, Point, move_at, goes_on, entered}
 use Rattle.c_program.specs.Faults.{Sort, A_mutex, A_condition, A_key, A_thread}
-use Rattle.c_program.specs.Paths.{LeadsTo, IsPoint, stands_at}
+use Rattle.c_program.specs.Paths.{IsPoint, stands_at}
 use Rattle.path_simulation.specs.Tracks.{Comes, at_entry, by_move}
-use Rattle.pointer_targets.specs.Names.{IsExact}
 use Rattle.pointer_targets.specs.Manners.{Manner}
 use Rattle.pointer_targets.proofs.Opening.{each_member}
-use Rattle.static_facts.specs.Depths.{Doing, Does_lock, Does_try, doing_of, Mark, marked, DepthStep, passes, moves, leaves, succeeds, fails, may_succeed, may_fail, elsewhere, DepthMoves, one_more, depths, MayHold, IsSurelyHeld}
-use Rattle.static_facts.specs.Facts.{Facts}
+use Rattle.static_facts.specs.Depths.{Doing, Does_lock, Does_try, doing_of, Mark, marked, DepthStep, passes, moves, leaves, succeeds, fails, may_succeed, may_fail, elsewhere, DepthMoves, depths, IsSurelyHeld}
 use Rattle.static_facts.proofs.Reached.{reached_point}
 use Rattle.guideline_findings.specs.Races.{MayRace, ShareMutex}
 use Rattle.guideline_findings.specs.Text.{is_weak, HoldsLibrary}
 use Rattle.guideline_findings.specs.Findings
-use Rattle.guideline_findings.specs.Findings.{Found, Subject, rule_of_sort, of_text, own, dependent, IsFoundInText, IsClean}
+use Rattle.guideline_findings.specs.Findings.{Found, Subject, rule_of_sort, of_text, own, dependent, IsClean}
 use Rattle.guideline_findings.specs.Silence.{HasCleanText}
 use Rattle.litmus.specs.Pieces.{m}
 use Rattle.litmus.proofs.Plain.{plain}
 use Rattle.silence_samples.specs.Samples.{static}
 use Rattle.silence_samples.specs.Locked.{locked_writes, locked_facts, is_named}
-use Rattle.silence_samples.proofs.LockedPoints.{at, worker, true_false, false_true, Led, of_main, of_worker, led, point_cases}
-use Rattle.silence_samples.proofs.LockedStates.{none_some, Standing, s4, goes}
-
-same_some : {A : Type 0} (a b : A) → Some a ≡ Some b → a ≡ b
-same_some a b e = cc
+use Rattle.silence_samples.proofs.LockedPoints.{at, worker, false_true, none_some, same_some, Led, of_main, of_worker, led, point_cases}
+use Rattle.silence_samples.proofs.LockedStates.{Standing, s4, goes}
 
 -- ---- a lock makes the depth at least 1
 

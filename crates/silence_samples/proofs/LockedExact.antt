@@ -1,5 +1,5 @@
 -- The given answers of the locked text are exact; what its two writes access.
-use Rattle.std.proofs.Common.{◌≡◌, refl, sym, subst, ap, ◌∙◌, Bool, true, false, not, ◌&&◌, ℕ, zero, suc, List, [], ◌∷◌, Option, Some, None}
+use Rattle.std.proofs.Common.{◌≡◌, refl, sym, subst, ap, ◌∙◌, Bool, true, false, not, ◌&&◌, ℕ, zero, suc, List, [], ◌∷◌, Some}
 use Rattle.std.specs.Prelude.{slice_get}
 use Rattle.c_program.specs.declared.expression.Expr.{Object}
 use Rattle.c_program.specs.Syntax.{c_int, act_at}
@@ -17,13 +17,10 @@ use Rattle.static_facts.specs.Analyses.{AreExact}
 use Rattle.litmus.specs.Pieces.{x}
 use Rattle.silence_samples.specs.Samples.{static}
 use Rattle.silence_samples.specs.Locked.{locked_writes, locked_facts, is_object}
-use Rattle.silence_samples.proofs.LockedPoints.{spot, at, worker, true_false, false_true, point_cases}
+use Rattle.silence_samples.proofs.LockedPoints.{spot, at, worker, true_false, false_true, none_some, same_some, point_cases}
 use Rattle.silence_samples.proofs.LockedNames.{is_it, names, names_object}
-use Rattle.silence_samples.proofs.LockedStates.{none_some, both}
+use Rattle.silence_samples.proofs.LockedStates.{both}
 use Rattle.silence_samples.proofs.LockedOrder.{thread_told, lives, plain_told, plain_is_told, ordered_told}
-
-same_some : {A : Type 0} (a b : A) → Some a ≡ Some b → a ≡ b
-same_some a b e = cc
 
 not_false : (b : Bool) → not b ≡ true → b ≡ false
 not_false false e = refl

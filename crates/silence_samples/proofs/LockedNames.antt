@@ -1,14 +1,13 @@
 -- What the calls of the locked text name, and what its writes access.
-use Rattle.std.proofs.Common.{◌≡◌, refl, sym, subst, ap, ◌∙◌, Bool, true, false, not, ◌&&◌, ◌==◌, ℕ, zero, suc, List, [], ◌∷◌, Option, Some, None, eqb-true}
-use Rattle.std.specs.Prelude.{pos, slice_get}
+use Rattle.std.proofs.Common.{◌≡◌, refl, sym, subst, ap, ◌∙◌, Bool, true, false, ◌&&◌, ◌==◌, ℕ, zero, suc, List, [], ◌∷◌, Option, Some, None, eqb-true}
+use Rattle.std.specs.Prelude.{slice_get}
 use Rattle.c_program.specs.declared.types.CType.{CType}
-use Rattle.c_program.specs.declared.expression.Expr.{Expr, Constant, Object}
-use Rattle.c_program.specs.declared.action.Local.{Local as LocalOf}
+use Rattle.c_program.specs.declared.expression.Expr.{Expr, Object}
 use Rattle.c_program.specs.declared.action.LibraryCall.{LibraryCall}
 use Rattle.c_program.specs.declared.action.LibraryCall.TheVariants as lib
 use Rattle.c_program.specs.declared.action.Act.{Act}
 use Rattle.c_program.specs.declared.action.Act.TheVariants.{Library}
-use Rattle.c_program.specs.Syntax.{c_int, act_at}
+use Rattle.c_program.specs.Syntax.{act_at}
 use Rattle.c_program.specs.Values.{Location}
 use Rattle.c_program.specs.Control.{Round, Spot, Point}
 use Rattle.c_program.specs.Counters.{arguments_of}
@@ -18,20 +17,12 @@ use Rattle.c_program.proofs.Cells.{and_true}
 use Rattle.pointer_targets.specs.Places.{Place, place_in, type_of_place}
 use Rattle.pointer_targets.specs.PointsTo
 use Rattle.pointer_targets.specs.PointsTo.{MayPointTo}
-use Rattle.pointer_targets.specs.Candidates.{MayMean, MayName, IsExact, IsNoArray, LiesAt, NamesAreExact}
-use Rattle.pointer_targets.specs.Accesses.{DataAccess, data_accesses, writes_at, at_scalar, at_part, MayTouch, MayAccess}
-use Rattle.pointer_targets.specs.Manners.{Manner, MayAccessAt}
+use Rattle.pointer_targets.specs.Candidates.{MayMean, MayName, IsExact, LiesAt, NamesAreExact}
 use Rattle.pointer_targets.specs.Tellings.{Tells}
-use Rattle.litmus.specs.Pieces.{m, t, x, w, null, plain_kind}
+use Rattle.litmus.specs.Pieces.{m, t, w, null, plain_kind}
 use Rattle.silence_samples.specs.Samples.{static}
 use Rattle.silence_samples.specs.Locked.{locked_writes, locked_facts, is_whole, is_object}
-use Rattle.silence_samples.proofs.LockedPoints.{spot, at, worker, true_false, false_true, point_cases}
-
-none_some : {A B : Type 0} (x : A) → None ≡ Some x → B
-none_some x e = absurd (cc)
-
-same_some : {A : Type 0} (a b : A) → Some a ≡ Some b → a ≡ b
-same_some a b e = cc
+use Rattle.silence_samples.proofs.LockedPoints.{at, worker, true_false, false_true, none_some, same_some, point_cases}
 
 -- ---- whole objects
 

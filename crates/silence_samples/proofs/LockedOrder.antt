@@ -1,29 +1,27 @@
 -- The order of the locked text's points, and the states of its library objects at them.
-use Rattle.std.proofs.Common.{◌≡◌, ◌≢◌, ◌⊎◌, inl, inr, refl, sym, subst, ap, ◌∙◌, Bool, true, false, not, ◌&&◌, ◌==◌, ◌<◌, ℕ, suc, nat_lt, List, [], ◌∷◌, Option, Some, None, arith, eqb-true}
+use Rattle.std.proofs.Common.{◌≡◌, ◌⊎◌, inl, inr, refl, sym, subst, ap, ◌∙◌, Bool, true, false, not, ◌&&◌, ◌==◌, ◌<◌, ℕ, suc, nat_lt, List, [], ◌∷◌, Some, None, arith, eqb-true}
 use Rattle.std.specs.Prelude.{if◌then◌else◌}
 use Rattle.std.specs.List.{Contains}
-use Rattle.c_program.specs.declared.statement.Statement.{Statement}
 use Rattle.c_program.specs.Syntax.{act_at, body_at}
 use Rattle.c_program.specs.Values.{Static, Location}
-use Rattle.c_program.specs.Control.{Control, Run, Round, Move, Spot, Point, goes_on, entered}
-use Rattle.c_program.specs.Faults.{Sort, A_mutex, A_condition, A_key, A_thread}
-use Rattle.c_program.specs.Paths.{Stands, at_entry, by_move, by_opening, behind, Edge, Leads, one, more, parts_of, IsPoint, initial, spots_of, stands_at}
+use Rattle.c_program.specs.Control.{Control, Run, Round, Spot, Point, goes_on}
+use Rattle.c_program.specs.Faults.{Sort, A_thread}
+use Rattle.c_program.specs.Paths.{Stands, at_entry, by_move, by_opening, behind, Edge, Leads, one, more, parts_of, IsPoint, initial, spots_of}
 use Rattle.c_program.proofs.Members.{In, from_contains, to_contains}
 use Rattle.c_program.proofs.Cells.{and_true}
-use Rattle.pointer_targets.specs.Names.{MayName, IsExact}
-use Rattle.pointer_targets.specs.LibraryObjects.{IsLocationOf}
+use Rattle.pointer_targets.specs.Names.{IsExact}
 use Rattle.pointer_targets.specs.Tellings.{Tells}
 use Rattle.static_facts.specs.Points.{is_creation, thread_of, IsCreationPoint}
-use Rattle.static_facts.specs.ObjectStates.{ObjectState, Is_unmade, Is_live, Is_joined, Is_detached, Is_dead, IsNoThread}
+use Rattle.static_facts.specs.ObjectStates.{ObjectState, Is_unmade, Is_live, Is_joined, Is_detached, Is_dead}
 use Rattle.static_facts.specs.ThreadStates.{MayBe, along, made_outside}
 use Rattle.static_facts.specs.Lives.{MayLive, in_initial as lives_in_initial, in_created}
 use Rattle.static_facts.specs.Order.{IsPlain, IsSettled, Ordered, in_initial, first_initial, second_initial, in_one, apart, IsPlainThread}
 use Rattle.litmus.specs.Pieces.{t}
 use Rattle.silence_samples.specs.Samples.{static}
 use Rattle.silence_samples.specs.Locked.{locked_writes, locked_facts, is_object, may_have_begun, is_possible, is_initial, is_before_thread, are_ordered, is_straight, plain_of}
-use Rattle.silence_samples.proofs.LockedPoints.{spot, at, worker, true_false, false_true, Led, of_main, of_worker, led, point_cases}
+use Rattle.silence_samples.proofs.LockedPoints.{spot, at, worker, true_false, false_true, none_some, Led, of_main, of_worker, led, point_cases}
 use Rattle.silence_samples.proofs.LockedNames.{is_it}
-use Rattle.silence_samples.proofs.LockedStates.{none_some, both, Standing, s4, t4, s5, s6, s7, s8, s9, s10, r4, goes, along_possible, along_4, along_5, along_6, along_7, along_8, along_9, state_of}
+use Rattle.silence_samples.proofs.LockedStates.{both, Standing, s4, t4, s5, s6, s7, s8, s9, s10, r4, goes, along_possible, along_4, along_5, along_6, along_7, along_8, along_9, state_of}
 
 -- ---- threads and creations
 

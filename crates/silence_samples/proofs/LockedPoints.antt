@@ -1,8 +1,6 @@
 -- The points of the locked text.
-use Rattle.std.proofs.Common.{◌≡◌, refl, sym, subst, ap, inl, inr, Bool, true, false, ℕ, List, [], ◌∷◌, Option}
+use Rattle.std.proofs.Common.{◌≡◌, subst, ap, inl, inr, Bool, true, false, ℕ, List, [], ◌∷◌, Some, None}
 use Rattle.std.specs.List.{Contains}
-use Rattle.c_program.specs.declared.expression.Expr.{Expr}
-use Rattle.c_program.specs.declared.action.Local.{Local}
 use Rattle.c_program.specs.declared.action.LibraryCall.TheVariants.{ThreadCreate}
 use Rattle.c_program.specs.declared.action.Act.{Act}
 use Rattle.c_program.specs.declared.action.Act.TheVariants.{Library, Call}
@@ -28,6 +26,12 @@ true_false e = absurd (cc)
 
 pub false_true : {A : Type 0} → false ≡ true → A
 false_true e = absurd (cc)
+
+pub none_some : {A B : Type 0} (x : A) → None ≡ Some x → B
+none_some x e = absurd (cc)
+
+pub same_some : {A : Type 0} (a b : A) → Some a ≡ Some b → a ≡ b
+same_some a b e = cc
 
 pub main_cases : (P : Spot → Type 0) → P (spot 4) → P (spot 5) → P (spot 6) → P (spot 7) → P (spot 8) → P (spot 9)
     → (s : Spot) → Contains (spots_of [] (body_at locked_writes 1)) s → P s

@@ -1,12 +1,12 @@
 -- Where the locked text's main stands, and which states its library objects may be in there.
-use Rattle.std.proofs.Common.{◌≡◌, ◌⊎◌, inl, inr, refl, sym, subst, ap, ◌∙◌, Bool, true, false, ◌&&◌, ℕ, zero, suc, nat_lt, List, [], ◌∷◌, Option, Some, None}
+use Rattle.std.proofs.Common.{◌≡◌, inl, inr, refl, sym, subst, ap, ◌∙◌, Bool, true, false, ◌&&◌, ℕ, zero, suc, List, [], ◌∷◌, Option, Some, None}
 use Rattle.std.specs.Prelude.{slice_get}
 use Rattle.c_program.specs.declared.statement.Statement.{Do}
 use Rattle.c_program.specs.Syntax.{act_at}
 use Rattle.c_program.specs.Values.{Location}
 use Rattle.c_program.specs.Control.{Control, Run, Move, Spot, Point, move_at, goes_on, entered}
 use Rattle.c_program.specs.Faults.{Sort, A_mutex, A_condition, A_key, A_thread}
-use Rattle.c_program.specs.Paths.{LeadsTo, initial, Offers, stands_at}
+use Rattle.c_program.specs.Paths.{initial, stands_at}
 use Rattle.c_program.proofs.Cells.{and_true}
 use Rattle.path_simulation.specs.Tracks.{Comes, at_entry, by_move}
 use Rattle.static_facts.specs.Outcomes.{follows_outcome, remembered_by}
@@ -14,13 +14,7 @@ use Rattle.static_facts.specs.ObjectStates.{ObjectState, Is_unmade, Is_live, Is_
 use Rattle.static_facts.specs.ObjectPaths.{Mark, Follows_none, At, IsNoStart, ObjectStep, follows_none, passes, moves, leaves, succeeds, fails, may_succeed, may_fail, elsewhere, states, MayBeAlong}
 use Rattle.litmus.specs.Pieces.{m, t}
 use Rattle.silence_samples.specs.Locked.{locked_writes, locked_facts, is_object, is_named, may_have_begun, is_possible}
-use Rattle.silence_samples.proofs.LockedPoints.{spot, at, worker, true_false, false_true, Led, of_main, of_worker, led}
-
-pub none_some : {A B : Type 0} (x : A) → None ≡ Some x → B
-none_some x e = absurd (cc)
-
-same_some : {A : Type 0} (a b : A) → Some a ≡ Some b → a ≡ b
-same_some a b e = cc
+use Rattle.silence_samples.proofs.LockedPoints.{spot, at, true_false, false_true, none_some, same_some, Led, of_main, of_worker, led}
 
 pub both : (a b : Bool) → a ≡ true → b ≡ true → (a && b) ≡ true
 both true true e f = refl

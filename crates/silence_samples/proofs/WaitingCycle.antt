@@ -1,12 +1,12 @@
 -- Whatever the sound answers, Directive 5.2 has a finding where `main` owns a mutex and joins a thread that locks it.
-use Rattle.std.proofs.Common.{◌≡◌, ◌≢◌, refl, inl, inr, ℕ, ◌<◌, List, [], ◌∷◌, Some, None, arith}
+use Rattle.std.proofs.Common.{◌≢◌, refl, inl, inr, ℕ, ◌<◌, List, [], ◌∷◌, None, arith}
 use Rattle.misra_base.specs.declared.guideline.Guideline.TheVariants.{D5_2}
 use Rattle.misra_base.specs.declared.kind.Kind.TheVariants as kinds
 use Rattle.c_program.specs.declared.expression.Expr.{Object}
 use Rattle.c_program.specs.declared.action.LibraryCall.TheVariants as lib
 use Rattle.c_program.specs.declared.statement.Statement.{Do}
 use Rattle.c_program.specs.Syntax.{act_at, body_at}
-use Rattle.c_program.specs.Values.{Static, Location}
+use Rattle.c_program.specs.Values.{Static}
 use Rattle.c_program.specs.Control.{Control, Run, Move, Spot, Point, entered}
 use Rattle.c_program.specs.Faults.{A_mutex, A_thread}
 use Rattle.c_program.specs.Requests.{mutex_type, thread_type}
@@ -24,7 +24,7 @@ use Rattle.static_facts.specs.Analyses.{AreSound}
 use Rattle.guideline_findings.specs.Ownership.{MayOwn}
 use Rattle.guideline_findings.specs.Graph.{Of_mutex, Of_end, wants_mutex, wants_end, has_mutex, has_end, EdgeAt, Edge}
 use Rattle.guideline_findings.specs.Findings.{Finding, own, cycle, Named_location}
-use Rattle.litmus.specs.Pieces.{at, m, t, w, main, null, plain_kind}
+use Rattle.litmus.specs.Pieces.{at, m, t, w, main, null}
 use Rattle.litmus.specs.Guidelines.{join_of_a_locker}
 use Rattle.silence_samples.specs.Samples.{static}
 

@@ -1,21 +1,19 @@
 -- Whatever the sound answers, Rule 22.17 has a finding where a thread unlocks what `main` owns.
-use Rattle.std.proofs.Common.{refl, inl, inr, ℕ, List, [], ◌∷◌, Some, None}
-use Rattle.std.specs.Prelude.{pos}
+use Rattle.std.proofs.Common.{refl, inl, inr, ℕ, List, [], ◌∷◌, None}
 use Rattle.misra_base.specs.declared.guideline.Guideline.TheVariants.{R22_17}
 use Rattle.misra_base.specs.declared.kind.Kind.TheVariants as kinds
 use Rattle.c_program.specs.declared.expression.Expr.{Object}
 use Rattle.c_program.specs.declared.action.LibraryCall.TheVariants.{MutexUnlock}
 use Rattle.c_program.specs.declared.statement.Statement.{Do}
 use Rattle.c_program.specs.Syntax.{act_at, body_at}
-use Rattle.c_program.specs.Values.{Static, Location}
-use Rattle.c_program.specs.Control.{Run, Move, Spot, Point, entered}
+use Rattle.c_program.specs.Values.{Static}
+use Rattle.c_program.specs.Control.{Run, Spot, Point, entered}
 use Rattle.c_program.specs.Requests.{mutex_type}
 use Rattle.c_program.specs.Paths.{LeadsTo, initial, by_creation, spots_of, IsPoint}
 use Rattle.c_program.proofs.Members.{to_contains}
 use Rattle.path_simulation.specs.Tracks.{at_entry}
 use Rattle.pointer_targets.specs.Places.{Of_all}
 use Rattle.pointer_targets.specs.PointsTo
-use Rattle.pointer_targets.specs.Names.{MayName as MayBeNamed}
 use Rattle.pointer_targets.specs.Candidates.{MayName}
 use Rattle.static_facts.specs.Points.{IsReachable}
 use Rattle.static_facts.specs.Depths.{marked, MayHold}

@@ -9,7 +9,6 @@ use Rattle.c_program.specs.Syntax.{c_int, act_at}
 use Rattle.c_program.specs.Values.{Location}
 use Rattle.c_program.specs.Control.{Round, Spot, Point}
 use Rattle.c_program.specs.Faults.{Sort, A_mutex, A_condition, A_key, A_thread}
-use Rattle.pointer_targets.specs.Manners.{Manner}
 use Rattle.static_facts.specs.ObjectStates.{ObjectState, Is_unmade, Is_live}
 use Rattle.static_facts.specs.Facts.{Facts}
 use Rattle.litmus.specs.Pieces.{m, t, x, straight, in_w, in_main, number, return_0, init, lock, unlock, create}

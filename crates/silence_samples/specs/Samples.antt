@@ -1,5 +1,5 @@
 -- What the samples say, and the texts among them that are no litmus test of the meaning.
-use Rattle.std.specs.Prelude.{ℕ, List, [], ◌∷◌, Option}
+use Rattle.std.specs.Prelude.{ℕ, [], ◌∷◌, Option}
 use Rattle.misra_base.specs.declared.guideline.Guideline.{Guideline}
 use Rattle.misra_base.specs.declared.kind.Kind.{Kind}
 use Rattle.misra_base.specs.declared.place.Place.{Place}
