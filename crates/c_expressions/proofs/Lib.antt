@@ -1,0 +1,6 @@
+pub mod Chains
+pub mod Chosen
+pub mod Growing
+pub mod Levels
+pub mod Loops
+pub mod Qualifiers
