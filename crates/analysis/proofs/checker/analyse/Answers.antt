@@ -18,7 +18,7 @@ pub returns-in_err-program-clause-refused : goal.returns-in_err-program-clause-r
 returns-in_err-program-clause-refused c =
     let r = err_from_is_err_and c.from_residual-in_err-program.result c.from_residual-in_err-program.ensures.1 in
     rw (r.1, r.2)
-    (not_built_first c.args.text.now _ c.in_ok-tokens.ensures.exact.0 (parsed_of _ _ _ (c.deref.ensures.value ∙ c.in_ok-tokens.ensures.exact.1) c.in_ok-tree.ensures.tree) c.in_err-program.ensures.refused)
+    (not_built_first c.args.text.now _ c.in_ok-tokens.ensures.exact.0 (parsed_of c.args.text.now _ (c.deref.ensures.value ∙ c.in_ok-tokens.ensures.exact.1) c.in_ok-tree.ensures.derived) c.in_err-program.ensures.refused)
 
 pub report_of-requires : goal.report_of-requires
 report_of-requires c = all_declared _ _ c.in_ok-program.ensures.ok.of_form.declared
