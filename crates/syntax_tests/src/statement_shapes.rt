@@ -175,13 +175,15 @@ fn put_start(start: &Option<ForStart>, out: &mut Shape) -> Result<(), AllocError
     match start {
         None => out.none(),
         Some(ForStart::Simple(simple)) => put_simple(simple, out),
-        Some(ForStart::Declaration {
-            specifiers,
-            pointers,
-            name,
-            place,
-            value,
-        }) => {
+        Some(
+            ForStart::Declaration {
+                specifiers,
+                pointers,
+                name,
+                place,
+                value,
+            },
+        ) => {
             out.open("start")?;
             put_specifiers(specifiers, out)?;
             put_pointers(pointers, out)?;

@@ -11,7 +11,11 @@ fn show(rt: &impl Abort, alloc: Global, text: &str, wanted: &str) -> Result<(), 
     let tokens = tokens(alloc, text.as_bytes()).expect(rt, "the text has tokens");
     let tree = tree(alloc, text.as_bytes(), &tokens).expect(rt, "the text has a tree");
     let line = format!(in alloc; " {wanted}")?;
-    assert_eq!(rt; shape_of(alloc, &tree)?.written(), line.as_bytes(), "{text}");
+    assert_eq!(rt;
+        shape_of(alloc, &tree)?.written(),
+        line.as_bytes(),
+        "{text}"
+    );
     Ok(())
 }
 

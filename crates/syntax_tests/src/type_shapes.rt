@@ -1,14 +1,13 @@
 use crate::expression_shapes::put_expression;
 use crate::shape::Shape;
-use c_tree::{Bound, Declarator, Enumerator, Expression, MemberDeclaration, Pointer, Specifier, Word};
+use c_tree::{
+    Bound, Declarator, Enumerator, Expression, MemberDeclaration, Pointer, Specifier, Word,
+};
 use misra_base::Place;
 use std::alloc::AllocError;
 
 #[cycle(shapes)]
-pub(crate) fn put_specifiers(
-    specifiers: &[Specifier],
-    out: &mut Shape,
-) -> Result<(), AllocError> {
+pub(crate) fn put_specifiers(specifiers: &[Specifier], out: &mut Shape) -> Result<(), AllocError> {
     for specifier in specifiers {
         put_specifier(specifier, out)?;
     }

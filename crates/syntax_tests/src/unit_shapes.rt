@@ -30,7 +30,10 @@ fn put_external(external: &External, out: &mut Shape) -> Result<(), AllocError> 
     }
 }
 
-pub(crate) fn put_declaration(declaration: &Declaration, out: &mut Shape) -> Result<(), AllocError> {
+pub(crate) fn put_declaration(
+    declaration: &Declaration,
+    out: &mut Shape,
+) -> Result<(), AllocError> {
     out.open("declare")?;
     put_specifiers(&declaration.specifiers, out)?;
     for declarator in &declaration.declarators {
