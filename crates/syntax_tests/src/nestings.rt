@@ -4,6 +4,7 @@ use std::process::Abort;
 use std::test::Fail;
 
 /// A text that nests one left side of the grammar in itself.
+#[derive(Clone, Copy)]
 struct Nest<'a> {
     begins: &'a str,
     opens: &'a str,
