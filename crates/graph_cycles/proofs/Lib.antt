@@ -4,3 +4,4 @@ pub mod Entering
 pub mod Cutting
 pub mod Joining
 pub mod Leaving
+pub mod Closing

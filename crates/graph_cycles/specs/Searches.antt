@@ -125,3 +125,19 @@ pub record IsClosedFrom (edges : List Edges) (old new : Search) (position : ℕ)
       → (place_at new node ≡ place_at old node) × (slice_index_or new.cyclic.items node false ≡ slice_index_or old.cyclic.items node false)
   pub kept : Keeps old new
   pub effort : effort new ≤ effort old
+
+-- those from the position up to another one are closed already
+pub record IsClosing (edges : List Edges) (old new : Search) (position up_to : ℕ) : Type 0 where
+  pub groups : new.groups.items ≡ old.groups.items
+  pub path : new.path.items ≡ old.path.items
+  pub left : new.left.items ≡ old.left.items
+  pub active : new.active.items ≡ old.active.items
+  pub places_long : length new.places.items ≡ length old.places.items
+  pub marks_long : length new.cyclic.items ≡ length old.cyclic.items
+  pub closes : (i node : ℕ) → At old i node → position ≤ i → i < up_to → place_at new node ≡ Closed
+  pub marks : (i node : ℕ) → At old i node → position ≤ i → i < up_to
+      → (slice_index_or new.cyclic.items node false ≡ true) ↔ ((position + 1 < length old.active.items) ⊎ Edge edges node node)
+  pub others : (node : ℕ) → ((i : ℕ) → At old i node → position ≤ i → i < up_to → ⊥)
+      → (place_at new node ≡ place_at old node) × (slice_index_or new.cyclic.items node false ≡ slice_index_or old.cyclic.items node false)
+  pub kept : Keeps old new
+  pub unmet : sum_by new_at new.places.items ≡ sum_by new_at old.places.items
