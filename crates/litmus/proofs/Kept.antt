@@ -2,7 +2,7 @@
 use Rattle.std.proofs.Common.{◌≡◌, refl, sym, subst, ap, ◌∙◌, true, false, ℕ, List, [], ◌∷◌, Some}
 use Rattle.std.specs.List.{list_any}
 use Rattle.misra_base.specs.declared.guideline.Guideline.{Guideline}
-use Rattle.misra_base.specs.declared.guideline.Guideline.TheVariants.{R22_11, R22_14, R22_15, R22_17, R22_18}
+use Rattle.misra_base.specs.declared.guideline.Guideline.TheVariants.{R21_25, R22_11, R22_12, R22_13, R22_14, R22_15, R22_17, R22_18, R22_20}
 use Rattle.c_program.specs.declared.program.Program.{Program}
 use Rattle.c_program.specs.Control.{Move}
 use Rattle.c_program.specs.State.{State}
@@ -62,6 +62,15 @@ module _ (g : Guideline)
 pub keeps_11 : (program : Program) (run : List Choice) → IsGoodRun program run → KeepsTo R22_11 program run
 keeps_11 = keeps R22_11 (λ program choice run b. b) (λ program state thread request e. (meant program state thread request e).1.0)
 
+pub keeps_21_25 : (program : Program) (run : List Choice) → IsGoodRun program run → KeepsTo R21_25 program run
+keeps_21_25 = keeps R21_25 (λ program choice run b. b) (λ program state thread request e. (meant program state thread request e).0)
+
+pub keeps_12 : (program : Program) (run : List Choice) → IsGoodRun program run → KeepsTo R22_12 program run
+keeps_12 = keeps R22_12 (λ program choice run b. b) (λ program state thread request e. (meant program state thread request e).1.1.0)
+
+pub keeps_13 : (program : Program) (run : List Choice) → IsGoodRun program run → KeepsTo R22_13 program run
+keeps_13 = keeps R22_13 (λ program choice run b. b) (λ program state thread request e. (meant program state thread request e).1.1.1.0)
+
 pub keeps_14 : (program : Program) (run : List Choice) → IsGoodRun program run → KeepsTo R22_14 program run
 keeps_14 = keeps R22_14 (λ program choice run b. b) (λ program state thread request e. (meant program state thread request e).1.1.1.1.0)
 
@@ -73,3 +82,6 @@ keeps_17 = keeps R22_17 (λ program choice run b. b) (λ program state thread re
 
 pub keeps_18 : (program : Program) (run : List Choice) → IsGoodRun program run → KeepsTo R22_18 program run
 keeps_18 = keeps R22_18 (λ program choice run b. b) (λ program state thread request e. (meant program state thread request e).1.1.1.1.1.1.1.0)
+
+pub keeps_20 : (program : Program) (run : List Choice) → IsGoodRun program run → KeepsTo R22_20 program run
+keeps_20 = keeps R22_20 (λ program choice run b. b) (λ program state thread request e. (meant program state thread request e).1.1.1.1.1.1.1.1.0)

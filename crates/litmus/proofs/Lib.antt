@@ -6,3 +6,6 @@ pub mod Made
 pub mod Alone
 pub mod Race
 pub mod Counted
+pub mod Each
+pub mod Shared
+pub mod Counting

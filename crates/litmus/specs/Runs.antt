@@ -25,6 +25,8 @@ use Rattle.c_program.specs.State.{Life, Unmade, Live, Mutex, Joined, control_of,
 use Rattle.c_program.specs.Step.{Choice, No_step}
 use Rattle.c_program.specs.Runs.{IsGoodRun, state_after, outcome_of}
 use Rattle.c_program.specs.WellFormed.{IsWellFormed}
+use Rattle.misra_base.specs.declared.guideline.Guideline.{Guideline}
+use Rattle.litmus.specs.Statements.{KeepsTo}
 use Rattle.litmus.specs.Pieces.{at, void_pointer, automatic_object, timespec, m, c, t, k, own, main, function_of, straight, in_w, in_main, number, null, return_0, idle, plain_kind, init, lock, unlock, wait, open_condition, create, goes, answers, in_order}
 
 -- ---- the tested form of a text whose two threads count under a mutex, to the return of main
@@ -91,12 +93,13 @@ counting_schedule = in_order (answers 0 0 ∷ not_so 0 ∷ answers 0 0 ∷ answe
     ∷ goes 1 ∷ goes 1 ∷ goes 1 ∷ goes 1 ∷ goes 1 ∷ goes 1 ∷ goes 2 ∷ goes 2 ∷ goes 2 ∷ goes 2 ∷ goes 2 ∷ goes 2
     ∷ goes 0 ∷ goes 0 ∷ goes 0 ∷ goes 0 ∷ [])
 
--- a run to the return of main, each of whose steps has a meaning, and what a cell then holds
+-- a run to the return of main, each of whose steps has a meaning and breaks no guideline, and what a cell then holds
 pub record ReturnsWith (program : Program) (run : List Choice) (cell : Cell) (number : ℤ) : Type 0 where
   pub is_well_formed : IsWellFormed program
   pub is_run : IsGoodRun program run
   pub is_over : (state_after program run).is_over ≡ true
   pub holds : (state_after program run).memory cell ≡ Some (Number number)
+  pub keeps : (guideline : Guideline) → KeepsTo guideline program run
 
 abbrev pub static_cell : ℕ → Cell
 static_cell object = record { root = StaticRoot object; path = [] }
