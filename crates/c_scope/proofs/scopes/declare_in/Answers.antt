@@ -1,6 +1,0 @@
-use Rattle.std.proofs.Common.{◌∙◌, refl, sym}
-use Rattle.indexmap.specs.IndexMap.{get}
-use Rattle.c_scope.specs.Scopes.{same_identifier}
-use Rattle.c_scope.proofs.Equality.{is_same}
-use Rattle.c_scope.proofs.Levels.{kept, put}
-use Rattle.c_scope.proofs.scopes.declare_in.Goals as goal
