@@ -11,8 +11,8 @@ mod spelling;
 mod text;
 mod typedefs;
 
-pub use linkages::Linked;
-pub use scopes::{Binding, Identifier};
+pub use linkages::{Linked, is_refused, mixes};
+pub use scopes::{Binding, Identifier, declares, is_second};
 pub use seen::{Seen, seen_of};
 pub use spelled::{Class, Facts, Spelled, Spot};
 pub use spelling::texts_of;

@@ -68,7 +68,7 @@ impl Linkages {
 }
 
 /// Whether a declaration makes an object of a function, or a function of an object.
-pub(crate) fn mixes(role: Role, first: Option<Linked>) -> bool
+pub fn mixes(role: Role, first: Option<Linked>) -> bool
     ensures { result ≡ mixes role first }
 {
     match first {
@@ -78,7 +78,7 @@ pub(crate) fn mixes(role: Role, first: Option<Linked>) -> bool
 }
 
 /// Whether a declaration declares nothing, whatever its scope has.
-pub(crate) fn is_refused(role: Role, facts: Facts, first: Option<Linked>) -> bool
+pub fn is_refused(role: Role, facts: Facts, first: Option<Linked>) -> bool
     ensures { result ≡ is_refused role facts first }
 {
     facts.is_reserved || mixes(role, first)

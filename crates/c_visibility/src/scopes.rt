@@ -204,7 +204,7 @@ pub fn is_second(role: Role, known: Option<Binding>) -> bool
 }
 
 /// Whether a declaration declares something.
-pub(crate) fn declares(role: Role, is_refused: bool, known: Option<Binding>) -> bool
+pub fn declares(role: Role, is_refused: bool, known: Option<Binding>) -> bool
     ensures { result ≡ declares role is_refused known }
 {
     !(is_refused || is_second(role, known))
