@@ -122,8 +122,7 @@ fn add_undefined_at(
         Spelled::Declare { role, facts, word }
             if is_first(role, facts, seen)
                 && !defined.contains(&seen.number)
-                && is_wanted(called, role, facts, seen) =>
-        {
+                && is_wanted(called, role, facts, seen) => {
             add_fault(alloc, faults, names, 12, word)
         }
         _ => Ok(()),

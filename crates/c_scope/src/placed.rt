@@ -63,7 +63,9 @@ fn add_at(
     ensures { OnOk result (faults.new.items ≡ faults.old.items ++ faults_by (texts names.now) seen seen.event) }
 {
     match seen.event {
-        Spelled::Use { word, .. } if seen.known.is_none() => add_fault(alloc, faults, names, 9, word),
+        Spelled::Use { word, .. } if seen.known.is_none() => add_fault(
+            alloc, faults, names, 9, word,
+        ),
         Spelled::Declare { role, facts, word } => {
             add_declared(alloc, faults, names, role, facts, word, seen)
         }

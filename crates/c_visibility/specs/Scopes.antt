@@ -1,6 +1,6 @@
 -- Which declarations of an identifier can be seen from a place (C11 6.2.1 to 6.2.3), told by the list of events alone.
 -- The events before the place are listed the nearest first.
-use Rattle.std.specs.Prelude.{ℕ, suc, Bool, true, false, ◌||◌, ◌&&◌, ◌==◌, not, if◌then◌else◌, List, [], ◌∷◌, map, Option, Some, None}
+use Rattle.std.specs.Prelude.{ℕ, ◌+◌, Bool, true, false, ◌||◌, ◌&&◌, ◌==◌, not, if◌then◌else◌, List, [], ◌∷◌, map, Option, Some, None}
 use Rattle.std.specs.Option.{is_some}
 use Rattle.c_names.specs.declared.declaration.NameSpace.{NameSpace}
 use Rattle.c_names.specs.declared.declaration.NameSpace.TheVariants.{Tags}
@@ -30,7 +30,7 @@ is_function role = same_kind role.kind a.Function
 -- how many declarations stand before
 abbrev pub declarations : List Spelled → ℕ
 declarations [] = 0
-declarations (Declare role facts word ∷ before) = suc (declarations before)
+declarations (Declare role facts word ∷ before) = declarations before + 1
 declarations (Open ∷ before) = declarations before
 declarations (Close ∷ before) = declarations before
 declarations (Mention ∷ before) = declarations before
@@ -150,8 +150,8 @@ abbrev mutual
   linked name (Declare role facts word ∷ before) =
       if word.name == name
       then linked_by (declarations before) role
-      (declares role (is_refused role facts (linked name before)) (declaring role (map binding (visible (identifier_of role.space word) before))))
-      (linked name before)
+      (declares role (is_refused role facts (linked word.name before)) (declaring role (map binding (visible (identifier_of role.space word) before))))
+      (linked word.name before)
       else linked name before
   linked name (Use space usage word ∷ before) = linked name before
 

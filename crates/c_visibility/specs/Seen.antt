@@ -1,5 +1,5 @@
 -- What each event speaks of. The events before it are listed the nearest first.
-use Rattle.std.specs.Prelude.{ℕ, suc, if◌then◌else◌, List, [], ◌∷◌, get_or}
+use Rattle.std.specs.Prelude.{ℕ, ◌+◌, if◌then◌else◌, List, [], ◌∷◌, get_or}
 use Rattle.c_visibility.specs.declared.spelled.Spelled.{Spelled}
 use Rattle.c_visibility.specs.declared.spelled.Spelled.TheVariants.{Open, Close, Mention, Parameter, Declare, Use}
 use Rattle.c_visibility.specs.declared.seen.Seen.{Seen}
@@ -8,7 +8,7 @@ use Rattle.c_visibility.specs.Scopes.{is_function, declarations, round, known, l
 -- how many scopes have begun
 abbrev pub opened : List Spelled → ℕ
 opened [] = 0
-opened (Open ∷ before) = suc (opened before)
+opened (Open ∷ before) = opened before + 1
 opened (Close ∷ before) = opened before
 opened (Mention ∷ before) = opened before
 opened (Parameter class ∷ before) = opened before
@@ -18,7 +18,7 @@ opened (Use space usage word ∷ before) = opened before
 -- the numbers of the scopes that are open, the innermost first: they are numbered as they begin
 abbrev pub open_scopes : List Spelled → List ℕ
 open_scopes [] = 0 ∷ []
-open_scopes (Open ∷ before) = suc (opened before) ∷ open_scopes before
+open_scopes (Open ∷ before) = (opened before + 1) ∷ open_scopes before
 open_scopes (Close ∷ before) = round (open_scopes before)
 open_scopes (Mention ∷ before) = open_scopes before
 open_scopes (Parameter class ∷ before) = open_scopes before

@@ -1,6 +1,6 @@
 -- What scopes see of a text, behind what is declared before it: the functions and constants of the library in a scope
 -- round that of the file, and `struct timespec` in the scope of the file (C11 7.1.4, 7.26.1, 7.27.1).
-use Rattle.std.specs.Prelude.{ℕ, suc, Bool, true, false, if◌then◌else◌, List, [], ◌∷◌, ◌++◌, position, Option, Some, None, codes}
+use Rattle.std.specs.Prelude.{ℕ, ◌+◌, Bool, true, false, if◌then◌else◌, List, [], ◌∷◌, ◌++◌, position, Option, Some, None, codes}
 use Rattle.std.specs.Str.{bytes_eq}
 use Rattle.c_names.specs.declared.declaration.NameSpace.TheVariants.{Ordinary, Tags}
 use Rattle.c_names.specs.declared.declaration.NameSpace.{NameSpace}
@@ -26,7 +26,7 @@ declared_before space kind name =
 abbrev pub library_declarations : ℕ → List (List ℕ) → List Spelled
 library_declarations k [] = []
 library_declarations k (text ∷ texts) =
-    (if is_library text then declared_before Ordinary a.Library k ∷ [] else []) ++ library_declarations (suc k) texts
+    (if is_library text then declared_before Ordinary a.Library k ∷ [] else []) ++ library_declarations (k + 1) texts
 
 abbrev pub timespec_declared : Option ℕ → List Spelled
 timespec_declared None = []

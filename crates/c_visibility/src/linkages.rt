@@ -1,4 +1,4 @@
-ghost use Rattle.std.specs.Prelude.{◌≡◌, ◌∷◌, [], List, if◌then◌else◌, nat_eq, OnOk};
+ghost use Rattle.std.specs.Prelude.{◌≡◌, ◌∷◌, ◌==◌, [], ℕ, List, if◌then◌else◌, nat_eq, OnOk};
 ghost use Rattle.indexmap.specs.IndexMap.{get};
 ghost use Rattle.c_visibility.specs.declared.spelled.Spelled.{Spelled as TheSpelled};
 ghost use Rattle.c_visibility.specs.Scopes.{mixes, is_refused, linked_by, linked_to, declarations, known};
@@ -52,16 +52,27 @@ impl Linkages {
     ) -> Result<(), AllocError>
         ensures { (before : List TheSpelled) → Links self.old before → number ≡ declarations before → known ≡ known before event → OnOk result (Links self.new (event ∷ before)) }
     {
-        let first = self.first(event);
-        if let Spelled::Declare { role, facts, word } = event
-            && let Some(first) = linked_by(
-                number,
-                role,
-                declares(role, is_refused(role, facts, first), known),
-                first,
-            )
-        {
-            self.firsts.insert(word.name, first)?;
+        if let Spelled::Declare { role, facts, word } = event {
+            let first = self.first(event);
+            let declares = declares(role, is_refused(role, facts, first), known);
+            self.link(number, role, declares, word.name)?;
+        }
+        Ok(())
+    }
+
+    /// Notes a declaration of a name, where it is the first with linkage.
+    fn link(
+        &mut self,
+        number: usize,
+        role: Role,
+        declares: bool,
+        name: usize,
+    ) -> Result<(), AllocError>
+        ensures { OnOk result ((other : ℕ) → get nat_eq self.new.firsts other ≡ (if name == other then linked_by number role declares (get nat_eq self.old.firsts name) else get nat_eq self.old.firsts other)) }
+    {
+        let first = self.firsts.get(&name).copied();
+        if let Some(linked) = linked_by(number, role, declares, first) {
+            self.firsts.insert(name, linked)?;
         }
         Ok(())
     }

@@ -3,11 +3,11 @@ ghost use Rattle.indexmap.specs.IndexMap.{get};
 ghost use Rattle.c_visibility.specs.declared.spelled.Spelled.{Spelled as TheSpelled};
 ghost use Rattle.c_visibility.specs.declared.spelled.Spelled.TheVariants.{Open, Close, Declare};
 ghost use Rattle.c_visibility.specs.declared.scopes.Identifier.{Identifier as TheIdentifier};
-ghost use Rattle.c_visibility.specs.Scopes.{same_identifier, identifier_of, may_repeat, is_second, joined, declares, taken, innermost, inner, round, known, declarations, linked_to};
+ghost use Rattle.c_visibility.specs.Scopes.{same_identifier, identifier_of, may_repeat, is_second, joined, declares, taken, innermost, inner, round, known, declarations, linked, linked_to};
 ghost use Rattle.c_visibility.specs.Knowledge.{has, taken_inner, taken_round, Knows};
 
 use crate::linkages::{Linked, is_refused};
-use crate::spelled::{Spelled, Spot};
+use crate::spelled::{Facts, Spelled, Spot};
 use c_identifiers::Role;
 use c_names::{Kind, NameSpace};
 use indexmap::IndexMap;
@@ -85,14 +85,29 @@ impl Scopes {
             Spelled::Mention | Spelled::Parameter(_) => Ok(None),
             Spelled::Use { space, word, .. } => Ok(find(&self.levels, identifier_of(space, word))),
             Spelled::Declare { role, facts, word } => {
-                let identifier = identifier_of(role.space, word);
-                let is_refused = is_refused(role, facts, first);
-                if role.kind == Kind::Function {
-                    self.declare_round(number, role, is_refused, identifier)
-                } else {
-                    self.declare(number, role, is_refused, identifier)
-                }
+                self.declare_word(number, role, facts, word, first)
             }
+        }
+    }
+
+    /// Declares a word, before which this one is the first of its name that has linkage.
+    fn declare_word(
+        &mut self,
+        number: usize,
+        role: Role,
+        facts: Facts,
+        word: Spot,
+        first: Option<Linked>,
+    ) -> Result<Option<Binding>, AllocError>
+        ensures known { (before : List TheSpelled) → Knows self.old before → number ≡ declarations before → first ≡ linked word.name before → OnOk result (Knows self.new (Declare role facts word ∷ before)) }
+        ensures found { (before : List TheSpelled) → Knows self.old before → IfOk result (λ r. r ≡ known before (Declare role facts word)) }
+    {
+        let identifier = identifier_of(role.space, word);
+        let is_refused = is_refused(role, facts, first);
+        if role.kind == Kind::Function {
+            self.declare_round(number, role, is_refused, identifier)
+        } else {
+            self.declare(number, role, is_refused, identifier)
         }
     }
 
