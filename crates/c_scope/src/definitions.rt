@@ -17,6 +17,7 @@ use misra_base::{Name, Place};
 use std::alloc::{AllocError, Global};
 
 /// The things that are defined, by the numbers of their first declarations.
+#[tactic(auto, using(crate::proofs::Tables::any_in_turn))]
 fn defined(alloc: Global, all: &[Seen]) -> Result<IndexSet<usize>, AllocError>
     ensures { IfOk result (λ things. (thing : ℕ) → contains nat_eq things thing ≡ is_defined all.now thing) }
 {
@@ -48,6 +49,7 @@ fn defined_thing(seen: Seen) -> Option<usize>
 }
 
 /// The functions that are called, or that a thread is to run, by the numbers of their first declarations.
+#[tactic(auto, using(crate::proofs::Tables::any_in_turn))]
 fn called(alloc: Global, all: &[Seen]) -> Result<IndexSet<usize>, AllocError>
     ensures { IfOk result (λ things. (thing : ℕ) → contains nat_eq things thing ≡ is_called all.now thing) }
 {

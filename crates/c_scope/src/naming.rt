@@ -49,6 +49,7 @@ fn add_declaration(declarations: &mut Vec<Declaration>, seen: Seen) -> Result<()
 }
 
 /// For the place of each name, the number of the declaration that stands there, or that the use there refers to.
+#[tactic(auto, using(crate::proofs::Tables::or_else_in_turn, crate::proofs::Tables::or_else_none))]
 pub(crate) fn references_of(
     alloc: Global,
     all: &[Seen],

@@ -1,7 +1,7 @@
-ghost use Rattle.std.specs.Prelude.{◌≡◌, ◌++◌, true, OnOk};
+ghost use Rattle.std.specs.Prelude.{◌≡◌, ◌++◌, ◌∷◌, [], OnOk};
 ghost use Rattle.c_visibility.specs.Spelling.{texts};
 ghost use Rattle.c_visibility.specs.declared.spelled.Spelled.TheVariants.{Declare};
-ghost use Rattle.c_scope.specs.Faults.{text_at, fault, faults_by, placed_faults, when};
+ghost use Rattle.c_scope.specs.Faults.{text_at, fault, faults_by, placed_faults};
 
 use c_faults::{Fault, FaultName};
 use c_identifiers::Role;
@@ -28,7 +28,7 @@ pub(crate) fn add_fault(
     code: u8,
     word: Spot,
 ) -> Result<(), AllocError>
-    ensures { OnOk result (faults.new.items ≡ faults.old.items ++ when true (fault code (texts names.now) word)) }
+    ensures { OnOk result (faults.new.items ≡ faults.old.items ++ fault code (texts names.now) word ∷ []) }
 {
     let name = Name::from_bytes(alloc, text_at(names, word.name))?;
     faults.push(Fault {
