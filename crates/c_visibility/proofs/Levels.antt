@@ -11,7 +11,7 @@ use Rattle.c_visibility.specs.declared.spelled.Spelled.TheVariants.{Close, Decla
 use Rattle.c_visibility.specs.declared.scopes.Identifier.{Identifier}
 use Rattle.c_visibility.specs.declared.scopes.Binding.{Binding}
 use Rattle.c_visibility.specs.declared.scopes.Scopes.{Scopes}
-use Rattle.c_visibility.specs.Scopes.{same_identifier, identifier_of, is_function, is_refused, linked, declarations, Declared, round, with_inner, with_round, with_declared, visible, joined, declares, taken, binding, bindings, inner, declaring, known}
+use Rattle.c_visibility.specs.Scopes.{same_identifier, identifier_of, is_function, is_refused, linked, declarations, Declared, round, with_inner, with_round, with_declared, visible, joined, declares, taken, binding, bindings, inner, declaring, known_at}
 use Rattle.c_visibility.specs.Knowledge.{has, taken_inner, taken_round, Knows}
 use Rattle.c_visibility.proofs.Equality.{is_same}
 

@@ -9,7 +9,7 @@ use Rattle.c_visibility.specs.declared.spelled.Spelled.{Spelled}
 use Rattle.c_visibility.specs.declared.spelled.Spelled.TheVariants.{Declare}
 use Rattle.c_visibility.specs.declared.scopes.Binding.{Binding}
 use Rattle.c_visibility.specs.declared.linkages.Linked.{Linked}
-use Rattle.c_visibility.specs.Scopes.{is_refused, declares, declarations, linked, linked_by, known}
+use Rattle.c_visibility.specs.Scopes.{is_refused, declares, declarations, linked, linked_by, known_at}
 
 -- none is put in where none is to be found
 none_before : (number : ℕ) (role : Role) (declares : Bool) (first : Option Linked) → linked_by number role declares first ≡ None → first ≡ None
@@ -32,7 +32,7 @@ pub none_put : (had : ℕ → Option Linked) (number : ℕ) (role : Role) (decla
 none_put had number role declares key name e = kept had key name (linked_by number role declares (had key)) e (none_before number role declares (had key) e)
 
 pub linked_behind : (old new : ℕ → Option Linked) (number : ℕ) (role : Role) (facts : Facts) (word : Spot) (before : List Spelled) (b : Option Binding)
-    → ((name : ℕ) → old name ≡ linked name before) → number ≡ declarations before → b ≡ known before (Declare role facts word)
+    → ((name : ℕ) → old name ≡ linked name before) → number ≡ declarations before → b ≡ known_at before (Declare role facts word)
     → ((name : ℕ) → new name
     ≡ (if word.name == name then linked_by number role (declares role (is_refused role facts (old word.name)) b) (old word.name) else old name))
     → (name : ℕ) → new name ≡ linked name (Declare role facts word ∷ before)
@@ -41,4 +41,4 @@ linked_behind old new number role facts word before b has at is step name =
     ∙ ap (λ (o : Option Linked). if word.name == name then linked_by number role (declares role (is_refused role facts o) b) o else old name) (has word.name)
     ∙ ap (λ (n : ℕ). if word.name == name then linked_by n role (declares role (is_refused role facts (linked word.name before)) b) (linked word.name before) else old name) at
     ∙ ap (λ (c : Option Binding). if word.name == name then linked_by (declarations before) role (declares role (is_refused role facts (linked word.name before)) c) (linked word.name before) else old name) is
-    ∙ ap (λ (o : Option Linked). if word.name == name then linked_by (declarations before) role (declares role (is_refused role facts (linked word.name before)) (known before (Declare role facts word))) (linked word.name before) else o) (has name)
+    ∙ ap (λ (o : Option Linked). if word.name == name then linked_by (declarations before) role (declares role (is_refused role facts (linked word.name before)) (known_at before (Declare role facts word))) (linked word.name before) else o) (has name)

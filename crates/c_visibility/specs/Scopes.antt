@@ -159,13 +159,13 @@ abbrev pub bindings : Identifier → List Spelled → List (Option Binding)
 bindings i before = map binding (visible i before)
 
 -- what is known of the identifier of an event where it stands
-abbrev pub known : List Spelled → Spelled → Option Binding
-known before Open = None
-known before Close = None
-known before Mention = None
-known before (Parameter class) = None
-known before (Use space usage word) = innermost (bindings (identifier_of space word) before)
-known before (Declare role facts word) = declaring role (bindings (identifier_of role.space word) before)
+abbrev pub known_at : List Spelled → Spelled → Option Binding
+known_at before Open = None
+known_at before Close = None
+known_at before Mention = None
+known_at before (Parameter class) = None
+known_at before (Use space usage word) = innermost (bindings (identifier_of space word) before)
+known_at before (Declare role facts word) = declaring role (bindings (identifier_of role.space word) before)
 
 -- the first declaration with linkage before one of the same name
 abbrev pub linked_to : List Spelled → Spelled → Option Linked

@@ -3,7 +3,7 @@ use Rattle.std.specs.Prelude.{ℕ, ◌+◌, if◌then◌else◌, List, [], ◌�
 use Rattle.c_visibility.specs.declared.spelled.Spelled.{Spelled}
 use Rattle.c_visibility.specs.declared.spelled.Spelled.TheVariants.{Open, Close, Mention, Parameter, Declare, Use}
 use Rattle.c_visibility.specs.declared.seen.Seen.{Seen}
-use Rattle.c_visibility.specs.Scopes.{is_function, declarations, round, known, linked_to}
+use Rattle.c_visibility.specs.Scopes.{is_function, declarations, round, known_at, linked_to}
 
 -- how many scopes have begun
 abbrev pub opened : List Spelled → ℕ
@@ -30,18 +30,18 @@ abbrev pub scope_of : List ℕ → Spelled → ℕ
 scope_of scopes (Declare role facts word) = get_or scopes (if is_function role then 1 else 0) 0
 scope_of scopes _ = get_or scopes 0 0
 
-abbrev pub seen : List Spelled → Spelled → Seen
-seen before event = record {
+abbrev pub seen_at : List Spelled → Spelled → Seen
+seen_at before event = record {
   event = event;
   number = declarations before;
-  known = known before event;
+  known = known_at before event;
   linked = linked_to before event;
   scope = scope_of (open_scopes before) event;
 }
 
 abbrev pub seen_behind : List Spelled → List Spelled → List Seen
 seen_behind before [] = []
-seen_behind before (e ∷ es) = seen before e ∷ seen_behind (e ∷ before) es
+seen_behind before (e ∷ es) = seen_at before e ∷ seen_behind (e ∷ before) es
 
 abbrev pub seen_of : List Spelled → List Seen
 seen_of = seen_behind []

@@ -1,7 +1,7 @@
 ghost use Rattle.std.specs.Prelude.{◌≡◌, ◌∷◌, ◌==◌, [], ℕ, List, if◌then◌else◌, nat_eq, OnOk};
 ghost use Rattle.indexmap.specs.IndexMap.{get};
 ghost use Rattle.c_visibility.specs.declared.spelled.Spelled.{Spelled as TheSpelled};
-ghost use Rattle.c_visibility.specs.Scopes.{mixes, is_refused, linked_by, linked_to, declarations, known};
+ghost use Rattle.c_visibility.specs.Scopes.{mixes, is_refused, linked_by, linked_to, declarations, known_at};
 ghost use Rattle.c_visibility.specs.Knowledge.{Links};
 
 use crate::scopes::{Binding, declares};
@@ -50,7 +50,7 @@ impl Linkages {
         event: Spelled,
         known: Option<Binding>,
     ) -> Result<(), AllocError>
-        ensures { (before : List TheSpelled) → Links self.old before → number ≡ declarations before → known ≡ known before event → OnOk result (Links self.new (event ∷ before)) }
+        ensures { (before : List TheSpelled) → Links self.old before → number ≡ declarations before → known ≡ known_at before event → OnOk result (Links self.new (event ∷ before)) }
     {
         if let Spelled::Declare { role, facts, word } = event {
             let first = self.first(event);

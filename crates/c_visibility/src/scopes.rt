@@ -3,7 +3,7 @@ ghost use Rattle.indexmap.specs.IndexMap.{get};
 ghost use Rattle.c_visibility.specs.declared.spelled.Spelled.{Spelled as TheSpelled};
 ghost use Rattle.c_visibility.specs.declared.spelled.Spelled.TheVariants.{Open, Close, Declare};
 ghost use Rattle.c_visibility.specs.declared.scopes.Identifier.{Identifier as TheIdentifier};
-ghost use Rattle.c_visibility.specs.Scopes.{same_identifier, identifier_of, may_repeat, is_second, joined, declares, taken, innermost, inner, round, known, declarations, linked, linked_to};
+ghost use Rattle.c_visibility.specs.Scopes.{same_identifier, identifier_of, may_repeat, is_second, joined, declares, taken, innermost, inner, round, known_at, declarations, linked, linked_to};
 ghost use Rattle.c_visibility.specs.Knowledge.{has, taken_inner, taken_round, Knows};
 
 use crate::linkages::{Linked, is_refused};
@@ -71,7 +71,7 @@ impl Scopes {
         first: Option<Linked>,
     ) -> Result<Option<Binding>, AllocError>
         ensures known { (before : List TheSpelled) → Knows self.old before → number ≡ declarations before → first ≡ linked_to before event → OnOk result (Knows self.new (event ∷ before)) }
-        ensures found { (before : List TheSpelled) → Knows self.old before → IfOk result (λ r. r ≡ known before event) }
+        ensures found { (before : List TheSpelled) → Knows self.old before → IfOk result (λ r. r ≡ known_at before event) }
     {
         match event {
             Spelled::Open => {
@@ -100,7 +100,7 @@ impl Scopes {
         first: Option<Linked>,
     ) -> Result<Option<Binding>, AllocError>
         ensures known { (before : List TheSpelled) → Knows self.old before → number ≡ declarations before → first ≡ linked word.name before → OnOk result (Knows self.new (Declare role facts word ∷ before)) }
-        ensures found { (before : List TheSpelled) → Knows self.old before → IfOk result (λ r. r ≡ known before (Declare role facts word)) }
+        ensures found { (before : List TheSpelled) → Knows self.old before → IfOk result (λ r. r ≡ known_at before (Declare role facts word)) }
     {
         let identifier = identifier_of(role.space, word);
         let is_refused = is_refused(role, facts, first);

@@ -1,6 +1,6 @@
 ghost use Rattle.std.specs.Prelude.{◌≡◌, ◌∷◌, ◌≤◌, ◌<◌, ◌^◌, ◌+◌, [], List, OnOk, IfOk};
 ghost use Rattle.c_visibility.specs.declared.spelled.Spelled.{Spelled as TheSpelled};
-ghost use Rattle.c_visibility.specs.Seen.{seen, seen_of};
+ghost use Rattle.c_visibility.specs.Seen.{seen_at, seen_of};
 ghost use Rattle.c_visibility.specs.Scopes.{declarations};
 ghost use Rattle.c_visibility.specs.Knowledge.{Follows};
 
@@ -52,7 +52,7 @@ impl Walk {
         requires number { self.now.number < 2 ^ 63 }
         requires scopes { self.now.nesting.opened < 2 ^ 63 }
         ensures known { (before : List TheSpelled) → Follows self.old before → OnOk result (Follows self.new (event ∷ before)) }
-        ensures seen { (before : List TheSpelled) → Follows self.old before → IfOk result (λ seen. seen ≡ seen before event) }
+        ensures seen { (before : List TheSpelled) → Follows self.old before → IfOk result (λ seen. seen ≡ seen_at before event) }
         ensures few { OnOk result (self.new.number ≤ self.old.number + 1) }
         ensures few_scopes { OnOk result (self.new.nesting.opened ≤ self.old.nesting.opened + 1) }
     {
