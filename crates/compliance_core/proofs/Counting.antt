@@ -10,8 +10,8 @@ use Rattle.misra_base.specs.declared.finding.Finding.{Finding}
 use Rattle.misra_base.specs.declared.deviation.Deviation.{Deviation}
 use Rattle.misra_base.specs.declared.category.Plan.{Plan}
 use Rattle.compliance_core.specs.Covers.{is_deviated}
-use Rattle.compliance_core.specs.Levels.{summary_row, summary_of, uncovered_of, deviated_of}
-use Rattle.compliance_core.specs.Laws.{count_against, findings_in, RowsHaveAll, SummaryHasAll}
+use Rattle.compliance_core.specs.Levels.{count_against, summary_row, summary_of, uncovered_of, deviated_of}
+use Rattle.compliance_core.specs.Laws.{findings_in, RowsHaveAll, SummaryHasAll}
 
 one : (a b : Bool) → cond (a && not b) 1 0 + cond (a && b) 1 0 ≡ cond a 1 0
 one true true = refl
@@ -27,6 +27,12 @@ split p q (x ∷ xs) =
     let rest = split p q xs in
     let first = one (p x) (q x) in
     omega (arith, left, right, whole, rest, first)
+
+-- the findings of a guideline are those that are covered and those that are not
+pub all_counted : (plan : Plan) (deviations : List Deviation) (findings : List Finding) (g : Guideline)
+    → uncovered_of plan deviations findings g + deviated_of plan deviations findings g ≡ count_against g findings
+unfolding uncovered_of deviated_of
+all_counted plan deviations findings g = split (λ f. same_guideline f.guideline g) (λ f. is_deviated plan deviations f) findings
 
 pub rows_have_all : RowsHaveAll
 unfolding summary_row uncovered_of deviated_of

@@ -98,7 +98,7 @@ numbered R22_18 = refl
 numbered R22_19 = refl
 numbered R22_20 = refl
 
-same_one : (g h : Guideline) → same_guideline g h ≡ true → g ≡ h
+pub same_one : (g h : Guideline) → same_guideline g h ≡ true → g ≡ h
 same_one g h e =
     sym (numbered g) ∙ ap (λ n. get_or all_guidelines n D5_1) (eqb-true (guideline_number g) (guideline_number h) e) ∙ numbered h
 

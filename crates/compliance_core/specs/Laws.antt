@@ -1,5 +1,5 @@
 -- What holds of covers, summaries and plans.
-use Rattle.std.specs.Prelude.{◌≡◌, ℕ, ◌+◌, ◌&&◌, Bool, true, false, not, List, length, count_by, Ok}
+use Rattle.std.specs.Prelude.{◌≡◌, ℕ, ◌+◌, ◌&&◌, Bool, true, false, not, List, length, Ok}
 use Rattle.std.specs.List.{list_all, sum_by}
 use Rattle.misra_base.specs.Guidelines.{same_guideline}
 use Rattle.misra_base.specs.declared.guideline.Guideline.{Guideline}
@@ -13,12 +13,8 @@ use Rattle.misra_base.specs.declared.category.Plan.{Plan}
 use Rattle.misra_base.specs.declared.summary.SummaryRow.{SummaryRow}
 use Rattle.compliance_core.specs.Categories.{is_allowed, is_mandatory, misra_category, revised_category}
 use Rattle.compliance_core.specs.Covers.{does_cover, is_approved, stands_for}
-use Rattle.compliance_core.specs.Levels.{summary_row, summary_of}
+use Rattle.compliance_core.specs.Levels.{count_against, summary_row, summary_of}
 use Rattle.compliance_core.specs.Plans.{Entry, plan_of}
-
--- how many findings the guideline has
-abbrev pub count_against : Guideline → List Finding → ℕ
-count_against g findings = count_by (λ f. same_guideline f.guideline g) findings
 
 abbrev pub findings_in : SummaryRow → ℕ
 findings_in row = row.uncovered + row.deviated

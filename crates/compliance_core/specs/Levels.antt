@@ -15,6 +15,10 @@ use Rattle.misra_base.specs.declared.summary.Level.TheVariants as levels
 use Rattle.compliance_core.specs.Categories.{revised_category}
 use Rattle.compliance_core.specs.Covers.{is_deviated}
 
+-- how many findings the guideline has
+abbrev pub count_against : Guideline → List Finding → ℕ
+count_against g findings = count_by (λ f. same_guideline f.guideline g) findings
+
 -- the findings of the guideline that some deviation covers, and those that none covers
 unfoldable pub deviated_of : Plan → List Deviation → List Finding → Guideline → ℕ
 deviated_of plan deviations findings g = count_by (λ f. same_guideline f.guideline g && is_deviated plan deviations f) findings
