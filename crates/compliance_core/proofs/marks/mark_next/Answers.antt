@@ -1,7 +1,7 @@
 use Rattle.std.proofs.Common.{◌≡◌, ◌∙◌, sym, false}
 use Rattle.compliance_core.specs.Marks.{can_cover}
 use Rattle.compliance_core.proofs.MarkLemmas.{settled_more, settled_past}
-use Rattle.compliance_core.proofs.levels.mark_next.Goals as goal
+use Rattle.compliance_core.proofs.marks.mark_next.Goals as goal
 
 pub returns-then-may_cover : goal.returns-then-may_cover
 returns-then-may_cover c = λ before h.

@@ -3,7 +3,7 @@ use Rattle.misra_base.specs.Guidelines.{same_guideline}
 use Rattle.misra_base.specs.declared.finding.Finding.{Finding}
 use Rattle.compliance_core.specs.Levels.{deviated_of}
 use Rattle.compliance_core.proofs.MarkLemmas.{counted_more}
-use Rattle.compliance_core.proofs.levels.count_settled.Goals as goal
+use Rattle.compliance_core.proofs.marks.count_settled.Goals as goal
 
 pub loop-i-init : goal.loop-i-init
 unfolding deviated_of

@@ -1,6 +1,6 @@
 use Rattle.std.proofs.Common.{◌≡◌, ◌≤◌, take}
 use Rattle.compliance_core.specs.Levels.{deviated_of}
-use Rattle.compliance_core.proofs.levels.count_settled.Given as goal
+use Rattle.compliance_core.proofs.marks.count_settled.Given as goal
 
 abbrev pub invariant-loop-i : goal.invariant-loop-i
 invariant-loop-i l = record {

@@ -1,7 +1,7 @@
 use Rattle.std.proofs.Common.{arith, rules, ◌≡◌, ◌∙◌, ap, take, drop, length}
 use Rattle.compliance_core.specs.Levels.{deviated_of}
 use Rattle.compliance_core.proofs.MarkLemmas.{deviated-take-drop, deviated-le-length}
-use Rattle.compliance_core.proofs.levels.count_deviated.Goals as goal
+use Rattle.compliance_core.proofs.marks.count_deviated.Goals as goal
 
 pub overflow_add-count : goal.overflow_add-count
 overflow_add-count c =

@@ -1,6 +1,6 @@
 use Rattle.std.proofs.Common.{arith, take}
 use Rattle.compliance_core.proofs.MarkLemmas.{settled_first, settled_next}
-use Rattle.compliance_core.proofs.levels.mark_settled.Goals as goal
+use Rattle.compliance_core.proofs.marks.mark_settled.Goals as goal
 
 pub loop-deviation-init : goal.loop-deviation-init
 loop-deviation-init c = settled_first c.args.plan.now c.args.guideline c.args.findings.now _ c.mark_others.ensures

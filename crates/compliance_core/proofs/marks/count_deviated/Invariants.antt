@@ -1,6 +1,6 @@
 use Rattle.std.proofs.Common.{◌≡◌, ◌+◌, length}
 use Rattle.compliance_core.specs.Levels.{deviated_of}
-use Rattle.compliance_core.proofs.levels.count_deviated.Given as goal
+use Rattle.compliance_core.proofs.marks.count_deviated.Given as goal
 
 abbrev pub decreases-loop-rest : goal.decreases-loop-rest
 decreases-loop-rest l = length l.rest

@@ -2,7 +2,7 @@ use Rattle.std.proofs.Common.{arith, ◌∙◌, ◌||◌, ap, false, get_or, ◌
 use Rattle.std.proofs.lemmas.List.{get_or_default}
 use Rattle.compliance_core.specs.Covers.{does_cover}
 use Rattle.compliance_core.proofs.MarkLemmas.{marks_more, marks_behind}
-use Rattle.compliance_core.proofs.levels.mark_covered.Goals as goal
+use Rattle.compliance_core.proofs.marks.mark_covered.Goals as goal
 
 pub loop-i-preserved : goal.loop-i-preserved
 loop-i-preserved c =

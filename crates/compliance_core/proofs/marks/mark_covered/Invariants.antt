@@ -1,7 +1,7 @@
 use Rattle.std.proofs.Common.{◌≡◌, ℕ, ◌<◌, ◌≤◌, ◌||◌, false, get_or}
 use Rattle.misra_base.specs.declared.finding.Finding.{Finding}
 use Rattle.compliance_core.specs.Covers.{does_cover}
-use Rattle.compliance_core.proofs.levels.mark_covered.Given as goal
+use Rattle.compliance_core.proofs.marks.mark_covered.Given as goal
 
 abbrev pub invariant-loop-i : goal.invariant-loop-i
 invariant-loop-i l =

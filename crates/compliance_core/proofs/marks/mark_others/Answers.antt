@@ -2,7 +2,7 @@ use Rattle.std.proofs.Common.{arith, ◌∙◌, ap, get_or}
 use Rattle.std.proofs.lemmas.List.{get_or_default}
 use Rattle.compliance_core.specs.Marks.{is_other}
 use Rattle.compliance_core.proofs.MarkLemmas.{marks_more}
-use Rattle.compliance_core.proofs.levels.mark_others.Goals as goal
+use Rattle.compliance_core.proofs.marks.mark_others.Goals as goal
 
 pub loop-i-preserved : goal.loop-i-preserved
 loop-i-preserved c = λ j f below.
