@@ -3,6 +3,7 @@ use Rattle.std.proofs.Common.{◌≡◌, ◌∙◌, ℕ, ◌+◌, ◌<◌, ◌�
 use Rattle.std.specs.List.{count_by, list_any}
 use Rattle.std.proofs.lemmas.Bool.{cases_Bool, cases_eq}
 use Rattle.std.proofs.lemmas.List.{get_or-set_same, get_or-set_other, take_more}
+use Rattle.std.proofs.lemmas.List.Elements.{All-get_or}
 use Rattle.std.proofs.lemmas.List.Folds.{list_any-append}
 use Rattle.std.proofs.lemmas.List.Sums.{sum_by_more, count_by-le-length, sum_by-take-drop}
 use Rattle.misra_base.specs.Guidelines.{same_guideline}
@@ -13,7 +14,9 @@ use Rattle.misra_base.specs.declared.category.Plan.{Plan}
 use Rattle.compliance_core.specs.Categories.{is_mandatory, revised_category}
 use Rattle.compliance_core.specs.Covers.{does_cover, is_approved, is_deviated, stands_as, stands_for}
 use Rattle.compliance_core.specs.Levels.{deviated_of}
+use Rattle.compliance_core.specs.Hashes.{HasFinding, IsFilter, deviation_hash}
 use Rattle.compliance_core.specs.Marks.{IsSettled, can_cover, is_other}
+use Rattle.compliance_core.proofs.HashLemmas.{hash_of_cover}
 use Rattle.compliance_core.proofs.LawLemmas.{same_one}
 
 or_assoc : (a b c : Bool) → ((a || b) || c) ≡ (a || (b || c))
@@ -31,17 +34,32 @@ stops_there false w o e = refl
 covers_none : (plan : Plan) (d : Deviation) (f : Finding) → can_cover plan d f.guideline ≡ false → does_cover plan d f ≡ false
 covers_none plan d f e = stops_there (can_cover plan d f.guideline) (stands_for d.function f.function) (stands_as d.form d.object f.object) e
 
--- a deviation that can cover no finding of the guideline changes nothing
-passed_over : (plan : Plan) (d : Deviation) (g : Guideline) (f : Finding) (b : Bool) → can_cover plan d g ≡ false → (is_other g f || b) ≡ (is_other g f || (b || does_cover plan d f))
-passed_over plan d g f b e =
+is_same : (s : Bool) → not s ≡ false → s ≡ true
+is_same true e = refl
+is_same false e = cc
+
+-- a deviation that the guideline can't have covers none of its findings
+pub cannot_cover : (plan : Plan) (d : Deviation) (g : Guideline) (f : Finding) → can_cover plan d g ≡ false → is_other g f ≡ false → does_cover plan d f ≡ false
+cannot_cover plan d g f e own = covers_none plan d f (ap (can_cover plan d) (same_one f.guideline g (is_same (same_guideline f.guideline g) own)) ∙ e)
+
+-- nor does one whose hash no finding of the guideline has
+pub hash_is_new : (has : ℕ → Bool) (plan : Plan) (d : Deviation) (g : Guideline) (findings : List Finding) → IsFilter has g findings → has (deviation_hash d) ≡ false
+    → (i : ℕ) (f : Finding) → i < length findings → is_other g (get_or findings i f) ≡ false → does_cover plan d (get_or findings i f) ≡ false
+hash_is_new has plan d g findings all new i f inside own =
+    let at = get_or findings i f in
+    let hashes = All-get_or (λ x. is_other g x ≡ false → HasFinding has x) findings i f inside all own in
     ⊎_elim
-    (λ (same : same_guideline f.guideline g ≡ true).
-    let own : can_cover plan d f.guideline ≡ false = ap (can_cover plan d) (same_one f.guideline g same) ∙ e in
-    ap (λ x. is_other g f || x) (or_none b (does_cover plan d f) (covers_none plan d f own)))
-    (λ (apart : same_guideline f.guideline g ≡ false).
-    let other : is_other g f ≡ true = ap not apart in
-    ap (λ x. x || b) other ∙ sym (ap (λ x. x || (b || does_cover plan d f)) other))
-    (cases_Bool (same_guideline f.guideline g))
+    (λ (covered : does_cover plan d at ≡ true). let old : has (deviation_hash d) ≡ true = hash_of_cover has plan d at hashes covered in cc)
+    (λ (none : does_cover plan d at ≡ false). none)
+    (cases_Bool (does_cover plan d at))
+
+-- a deviation that covers no finding of the guideline changes nothing
+passed_over : (plan : Plan) (d : Deviation) (g : Guideline) (f : Finding) (b : Bool) → (is_other g f ≡ false → does_cover plan d f ≡ false) → (is_other g f || b) ≡ (is_other g f || (b || does_cover plan d f))
+passed_over plan d g f b none =
+    ⊎_elim
+    (λ (other : is_other g f ≡ true). ap (λ x. x || b) other ∙ sym (ap (λ x. x || (b || does_cover plan d f)) other))
+    (λ (own : is_other g f ≡ false). ap (λ x. is_other g f || x) (or_none b (does_cover plan d f) (none own)))
+    (cases_Bool (is_other g f))
 
 deviated_more : (plan : Plan) (before : List Deviation) (d : Deviation) (f : Finding)
     → is_deviated plan (before ++ d ∷ []) f ≡ (is_deviated plan before f || does_cover plan d f)
@@ -50,11 +68,12 @@ deviated_more plan before d f =
     ∙ ap (λ b. is_deviated plan before f || b) (sym (or_none (does_cover plan d f) false refl))
 
 pub settled_past : (plan : Plan) (before : List Deviation) (d : Deviation) (g : Guideline) (findings : List Finding) (marks : List Bool)
-    → can_cover plan d g ≡ false → IsSettled plan before g findings marks → IsSettled plan (before ++ d ∷ []) g findings marks
-settled_past plan before d g findings marks cannot h i f inside =
+    → ((i : ℕ) (f : Finding) → i < length findings → is_other g (get_or findings i f) ≡ false → does_cover plan d (get_or findings i f) ≡ false)
+    → IsSettled plan before g findings marks → IsSettled plan (before ++ d ∷ []) g findings marks
+settled_past plan before d g findings marks none h i f inside =
     let at = get_or findings i f in
     h i f inside
-    ∙ passed_over plan d g at (is_deviated plan before at) cannot
+    ∙ passed_over plan d g at (is_deviated plan before at) (none i f inside)
     ∙ ap (λ b. is_other g at || b) (sym (deviated_more plan before d at))
 
 pub settled_more : (plan : Plan) (before : List Deviation) (d : Deviation) (g : Guideline) (findings : List Finding) (old new : List Bool)
