@@ -1,5 +1,5 @@
 -- A deviation that covers a finding has one of its hashes.
-use Rattle.std.proofs.Common.{◌≡◌, ◌∙◌, ℕ, suc, zero, eqb, Bool, true, false, cond, not, ◌&&◌, ◌||◌, List, [], ◌∷◌, ◌++◌, take, drop, Option, Some, None, All, refl, sym, ap, subst, absurd, ⊎_elim, ◌⊎◌, inl, inr, ◌+◌, codes}
+use Rattle.std.proofs.Common.{◌≡◌, ◌∙◌, ℕ, suc, zero, eqb, Bool, true, false, cond, not, ◌&&◌, ◌||◌, List, [], ◌∷◌, ◌++◌, take, drop, Option, Some, None, All, refl, sym, ap, subst, arith, ⊎_elim, ◌⊎◌, inl, inr, ◌+◌, codes}
 use Rattle.std.specs.List.{prefix_len}
 use Rattle.std.specs.Char.{is_ascii_digit}
 use Rattle.std.specs.Prelude.{option_and_then}
@@ -22,22 +22,24 @@ use Rattle.compliance_core.proofs.PatternLemmas.{any_shape}
 -- ---- what is outside of brackets
 
 past_digit : (b : ℕ) (text : List ℕ) → is_ascii_digit b ≡ true → outside_from true (b ∷ text) ≡ outside_from true text
-unfolding outside_from
 past_digit b text digit =
     ⊎_elim
     (λ (is : eqb b (byte "]") ≡ true). let wrong : is_ascii_digit (byte "]") ≡ true = subst (λ x. is_ascii_digit x ≡ true) (eqb-true b (byte "]") is) digit in cc)
     (λ (other : eqb b (byte "]") ≡ false). ap (λ x. outside_from (not x) text) other)
     (cases_Bool (eqb b (byte "]")))
 
+dropped : (b n : ℕ) (text : List ℕ) → drop (1 + n) (b ∷ text) ≡ drop n text
+dropped b n text = let next : 1 + n ≡ suc n = omega arith in ap (λ m. drop m (b ∷ text)) next
+
 past_digits : (text : List ℕ) → outside_from true text ≡ outside_from true (drop (prefix_len is_ascii_digit text) text)
 past_digits [] = refl
 past_digits (b ∷ text) =
+    let n = prefix_len is_ascii_digit text in
     ⊎_elim
-    (λ (yes : is_ascii_digit b ≡ true).
-    past_digit b text yes ∙ past_digits text
-    ∙ ap (λ n. outside_from true (drop n (b ∷ text))) (sym (cond-true (is_ascii_digit b) (1 + prefix_len is_ascii_digit text) 0 yes)))
-    (λ (no : is_ascii_digit b ≡ false).
-    ap (λ n. outside_from true (drop n (b ∷ text))) (sym (cond-false (is_ascii_digit b) (1 + prefix_len is_ascii_digit text) 0 no)))
+    (λ (digit : is_ascii_digit b ≡ true).
+    past_digit b text digit ∙ past_digits text ∙ ap (outside_from true) (sym (dropped b n text))
+    ∙ ap (λ m. outside_from true (drop m (b ∷ text))) (sym (cond-true (is_ascii_digit b) (1 + n) 0 digit)))
+    (λ (other : is_ascii_digit b ≡ false). ap (λ m. outside_from true (drop m (b ∷ text))) (sym (cond-false (is_ascii_digit b) (1 + n) 0 other)))
     (cases_Bool (is_ascii_digit b))
 
 -- ---- a byte that is there
@@ -49,33 +51,30 @@ byte_there b (c ∷ text) behind e = there (eqb c b) refl e
     there true is e = let left : text ≡ behind = cc in ap (λ x. x ∷ text) (eqb-true c b is) ∙ ap (λ x. b ∷ x) left
     there false is e = cc
 
-digits_there : (n : ℕ) (text behind : List ℕ) → cond (eqb n 0) None (after_byte (byte "]") text) ≡ Some behind → text ≡ byte "]" ∷ behind
-digits_there zero text behind e = cc
-digits_there (suc n) text behind e = byte_there (byte "]") text behind e
+digits_there : (none : Bool) (text behind : List ℕ) → cond none None (after_byte (byte "]") text) ≡ Some behind → text ≡ byte "]" ∷ behind
+digits_there true text behind e = cc
+digits_there false text behind e = byte_there (byte "]") text behind e
 
 past_number : (text behind : List ℕ) → after_digits text ≡ Some behind → outside_from true text ≡ outside_from false behind
-unfolding outside_from
 past_number text behind e =
     let n = prefix_len is_ascii_digit text in
-    past_digits text ∙ ap (outside_from true) (digits_there n (drop n text) behind e)
+    past_digits text ∙ ap (outside_from true) (digits_there (eqb n 0) (drop n text) behind e)
 
-opened : Bool → List ℕ → List ℕ
+abbrev opened : Bool → List ℕ → List ℕ
 opened true text = text
 opened false text = byte "[" ∷ text
 
 index_outside : (inner : Option (List ℕ)) (text behind : List ℕ) → after_byte (byte "[") text ≡ inner → option_and_then after_digits inner ≡ Some behind → (inside : Bool) → outside_from inside text ≡ opened inside (outside_from false behind)
-unfolding outside_from
 index_outside None text behind o e inside = cc
 index_outside (Some inner) text behind o e true = ap (outside_from true) (byte_there (byte "[") text inner o) ∙ past_number inner behind e
 index_outside (Some inner) text behind o e false = ap (outside_from false) (byte_there (byte "[") text inner o) ∙ ap (λ x. byte "[" ∷ x) (past_number inner behind e)
 
 any_outside : (inside : Bool) (rest : List ℕ) → outside_from inside (codes "[*]" ++ rest) ≡ opened inside (outside_from false rest)
-unfolding outside_from
 any_outside true rest = refl
 any_outside false rest = refl
 
 -- what a pattern and what fills it have alike
-Alike : ℕ → List ℕ → Type 0
+abbrev Alike : ℕ → List ℕ → Type 0
 Alike past pattern = (text : List ℕ) (inside : Bool) → filled_past past pattern text ≡ true → outside_from inside (drop past pattern) ≡ outside_from inside text
 
 alike_any : (c : ℕ) (pattern text : List ℕ) (behind : Option (List ℕ)) (inside : Bool) → begins_with_any (c ∷ pattern) ≡ true → after_index text ≡ behind → Alike 2 pattern
@@ -88,7 +87,6 @@ alike_any c pattern text (Some behind) inside any e rest h =
     ∙ sym (index_outside (after_byte (byte "[") text) text behind refl e inside)
 
 next_alike : (c : ℕ) (pattern behind : List ℕ) (inside : Bool) → Alike 0 pattern → filled_past 0 pattern behind ≡ true → outside_from inside (c ∷ pattern) ≡ outside_from inside (c ∷ behind)
-unfolding outside_from
 next_alike c pattern behind true rest h = rest behind (not (eqb c (byte "]"))) h
 next_alike c pattern behind false rest h = ap (λ x. c ∷ x) (rest behind (eqb c (byte "[")) h)
 
@@ -104,8 +102,7 @@ alike_next : (any : Bool) (c : ℕ) (pattern text : List ℕ) (inside : Bool) �
 alike_next true c pattern text inside is past rest h = alike_any c pattern text (after_index text) inside is refl past h
 alike_next false c pattern text inside is past rest h = alike_byte c pattern text (after_byte c text) inside refl rest h
 
-alike : (past : ℕ) (pattern : List ℕ) → Alike past pattern
-unfolding outside_from
+alike : (past : ℕ) (pattern text : List ℕ) (inside : Bool) → filled_past past pattern text ≡ true → outside_from inside (drop past pattern) ≡ outside_from inside text
 alike zero [] [] inside h = refl
 alike (suc past) [] [] inside h = refl
 alike zero [] (b ∷ text) inside h = cc
@@ -123,8 +120,8 @@ equal_texts : (xs ys : List ℕ) → bytes_eq xs ys ≡ true → xs ≡ ys
 equal_texts xs ys e = (bytes_eq-Decides xs ys).0 e
 
 other_or : (a b : Bool) → a ≡ false → (a || b) ≡ true → b ≡ true
-other_or true b no h = cc
-other_or false b no h = h
+other_or true b isnt h = cc
+other_or false b isnt h = h
 
 words_any : (hash : ℕ) (words hashed : List ℕ) → bytes_eq words (codes "*") ≡ true → words_hash hash words hashed ≡ hash
 words_any hash words hashed e = cond-true (bytes_eq words (codes "*")) hash (hash_from hash hashed) e
@@ -149,13 +146,13 @@ pattern_part words object other h =
     (cases_Bool (bytes_eq words object))
   where
     other_both : (a b : Bool) → a ≡ false → b ≡ false → (a || b) ≡ false
-    other_both true b no none = cc
-    other_both false b no none = none
+    other_both true b isnt none = cc
+    other_both false b isnt none = none
 
 object_other : (has : ℕ → Bool) (hash : ℕ) (form : Form) (words object : List ℕ) → HasObject has hash object → bytes_eq words (codes "*") ≡ false → stands_as form words object ≡ true → has (hash_from hash (fixed_part form words)) ≡ true
 object_other has hash Text words object all other h =
-    ap (λ x. has (hash_from hash x)) (equal_texts words object (other_or (bytes_eq words (codes "*")) (bytes_eq words object) other h)) ∙ all.1.0
-object_other has hash Pattern words object all other h = ap (λ x. has (hash_from hash x)) (pattern_part words object other h) ∙ all.1.1
+    ap (λ x. has (hash_from hash x)) (equal_texts words object (other_or (bytes_eq words (codes "*")) (bytes_eq words object) other h)) ∙ all.1
+object_other has hash Pattern words object all other h = ap (λ x. has (hash_from hash x)) (pattern_part words object other h) ∙ all.2
 
 object_part : (has : ℕ → Bool) (hash : ℕ) (form : Form) (words object : List ℕ) → HasObject has hash object → stands_as form words object ≡ true → has (words_hash hash words (fixed_part form words)) ≡ true
 object_part has hash form words object all h =

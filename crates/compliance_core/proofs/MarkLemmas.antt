@@ -38,20 +38,32 @@ is_same : (s : Bool) → not s ≡ false → s ≡ true
 is_same true e = refl
 is_same false e = cc
 
--- a deviation that the guideline can't have covers none of its findings
-pub cannot_cover : (plan : Plan) (d : Deviation) (g : Guideline) (f : Finding) → can_cover plan d g ≡ false → is_other g f ≡ false → does_cover plan d f ≡ false
+-- a deviation from another guideline, or from none that may be deviated from, covers none of its findings
+cannot_cover : (plan : Plan) (d : Deviation) (g : Guideline) (f : Finding) → can_cover plan d g ≡ false → is_other g f ≡ false → does_cover plan d f ≡ false
 cannot_cover plan d g f e own = covers_none plan d f (ap (can_cover plan d) (same_one f.guideline g (is_same (same_guideline f.guideline g) own)) ∙ e)
 
--- nor does one whose hash no finding of the guideline has
-pub hash_is_new : (has : ℕ → Bool) (plan : Plan) (d : Deviation) (g : Guideline) (findings : List Finding) → IsFilter has g findings → has (deviation_hash d) ≡ false
+-- nor does one whose hash the finding has not
+hash_is_new : (has : ℕ → Bool) (plan : Plan) (d : Deviation) (f : Finding) → HasFinding has f → has (deviation_hash d) ≡ false → does_cover plan d f ≡ false
+hash_is_new has plan d f all new =
+    ⊎_elim
+    (λ (covered : does_cover plan d f ≡ true). let old : has (deviation_hash d) ≡ true = hash_of_cover has plan d f all covered in cc)
+    (λ (none : does_cover plan d f ≡ false). none)
+    (cases_Bool (does_cover plan d f))
+
+other_and : (a b : Bool) → (a && b) ≡ false → a ≡ true → b ≡ false
+other_and true b h is = h
+other_and false b h is = cc
+
+pub covers_none_of : (has : ℕ → Bool) (plan : Plan) (d : Deviation) (g : Guideline) (findings : List Finding) → IsFilter has g findings
+    → (can_cover plan d g && has (deviation_hash d)) ≡ false
     → (i : ℕ) (f : Finding) → i < length findings → is_other g (get_or findings i f) ≡ false → does_cover plan d (get_or findings i f) ≡ false
-hash_is_new has plan d g findings all new i f inside own =
+covers_none_of has plan d g findings all e i f inside own =
     let at = get_or findings i f in
     let hashes = All-get_or (λ x. is_other g x ≡ false → HasFinding has x) findings i f inside all own in
     ⊎_elim
-    (λ (covered : does_cover plan d at ≡ true). let old : has (deviation_hash d) ≡ true = hash_of_cover has plan d at hashes covered in cc)
-    (λ (none : does_cover plan d at ≡ false). none)
-    (cases_Bool (does_cover plan d at))
+    (λ (can : can_cover plan d g ≡ true). hash_is_new has plan d at hashes (other_and (can_cover plan d g) (has (deviation_hash d)) e can))
+    (λ (cannot : can_cover plan d g ≡ false). cannot_cover plan d g at cannot own)
+    (cases_Bool (can_cover plan d g))
 
 -- a deviation that covers no finding of the guideline changes nothing
 passed_over : (plan : Plan) (d : Deviation) (g : Guideline) (f : Finding) (b : Bool) → (is_other g f ≡ false → does_cover plan d f ≡ false) → (is_other g f || b) ≡ (is_other g f || (b || does_cover plan d f))

@@ -17,7 +17,7 @@ split_front (a ∷ []) = refl
 split_front (a ∷ b ∷ []) = refl
 split_front (a ∷ b ∷ c ∷ xs) = refl
 
-any_shape : (pattern : List ℕ) → begins_with_any pattern ≡ true → pattern ≡ codes "[*]" ++ drop 3 pattern
+pub any_shape : (pattern : List ℕ) → begins_with_any pattern ≡ true → pattern ≡ codes "[*]" ++ drop 3 pattern
 any_shape pattern h =
     let front : take 3 pattern ≡ codes "[*]" = (bytes_eq-Decides (take 3 pattern) (codes "[*]")).0 h in
     sym (split_front pattern) ∙ ap (λ xs. xs ++ drop 3 pattern) front

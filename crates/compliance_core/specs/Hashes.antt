@@ -15,12 +15,12 @@ abbrev pub next_hash : ℕ → ℕ → ℕ
 next_hash hash b = (hash * 31 + b) % hash_count
 
 -- the hash of a text behind one that has this hash
-unfoldable pub hash_from : ℕ → List ℕ → ℕ
+abbrev pub hash_from : ℕ → List ℕ → ℕ
 hash_from hash [] = hash
 hash_from hash (b ∷ text) = hash_from (next_hash hash b) text
 
 -- what is left of a text, which begins inside of brackets or not, without what is inside of brackets and without `]`
-unfoldable pub outside_from : Bool → List ℕ → List ℕ
+abbrev pub outside_from : Bool → List ℕ → List ℕ
 outside_from inside [] = []
 outside_from true (b ∷ text) = outside_from (not (b == byte "]")) text
 outside_from false (b ∷ text) = b ∷ outside_from (b == byte "[") text

@@ -1,5 +1,5 @@
 //! A Bloom filter of findings: it tells fast of most deviations that they cover none of them.
-ghost use Rattle.std.specs.Prelude.{◌≡◌, ◌<◌, ℕ, true};
+ghost use Rattle.std.specs.Prelude.{◌≡◌, ◌<◌, ℕ, false, true};
 ghost use Rattle.misra_base.specs.Rows.{has_bit};
 ghost use Rattle.compliance_core.specs.Hashes.{hash_count, next_hash as hash_with, hash_from as hash_behind, outside_from, words_hash as hash_of_words, fixed_part, deviation_hash as hash_of_deviation, HasObject, HasFinding, IsFilter};
 

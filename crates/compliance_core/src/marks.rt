@@ -5,7 +5,7 @@ ghost use Rattle.misra_base.specs.Rows.{has_bit};
 ghost use Rattle.misra_base.specs.declared.finding.Finding.{Finding};
 ghost use Rattle.misra_base.specs.declared.deviation.Deviation.{Deviation};
 ghost use Rattle.compliance_core.specs.Covers.{does_cover};
-ghost use Rattle.compliance_core.specs.Hashes.{IsFilter};
+ghost use Rattle.compliance_core.specs.Hashes.{IsFilter, deviation_hash as hash_of};
 ghost use Rattle.compliance_core.specs.Marks.{IsSettled, can_cover, is_other};
 ghost use Rattle.compliance_core.specs.Levels.{count_against, deviated_of};
 
@@ -17,13 +17,14 @@ use misra_base::{Category, Deviation, Finding, Guideline, Plan, Status};
 /// How many findings are looked at together, so that the deviations are read once for all of them.
 const CHUNK: usize = 512;
 
-/// Whether the deviation can cover findings of the guideline at all.
-fn may_cover(plan: &Plan, deviation: &Deviation, guideline: Guideline) -> bool
-    ensures { result ≡ can_cover plan.now deviation.now guideline }
+/// Whether the deviation can cover findings of the guideline that have these hashes.
+fn may_cover(plan: &Plan, deviation: &Deviation, guideline: Guideline, hashes: &Hashes) -> bool
+    ensures { result ≡ (can_cover plan.now deviation.now guideline && has_bit hashes.now (hash_of deviation.now)) }
 {
     deviation.status == Status::Approved
         && deviation.guideline == guideline
         && revised(plan, deviation.guideline) != Category::Mandatory
+        && hashes.get(deviation_hash(deviation))
 }
 
 /// Whether the finding is of another guideline.
@@ -76,7 +77,7 @@ fn mark_next(
     ensures { (before : List Deviation) → IsSettled plan.now before guideline findings.now marks.old
         → IsSettled plan.now (before ++ deviation.now ∷ []) guideline findings.now marks.new }
 {
-    if may_cover(plan, deviation, guideline) && hashes.get(deviation_hash(deviation)) {
+    if may_cover(plan, deviation, guideline, hashes) {
         mark_covered(plan, deviation, findings, marks);
     }
 }
