@@ -1,5 +1,5 @@
--- When a deviation covers a finding, after MISRA Compliance:2020, 4: it is approved, it is from the finding's guideline, and that
--- one is not mandatory. Which findings it is for, its function and object say.
+-- When a deviation covers a finding, after MISRA Compliance:2020, "Deviations": it is approved, it is from the finding's guideline,
+-- and that one is not mandatory. Which findings it is for, its function and object say.
 use Rattle.std.specs.Prelude.{ℕ, Bool, true, false, not, ◌&&◌, ◌||◌, List, codes}
 use Rattle.std.specs.List.{list_any}
 use Rattle.std.specs.Str.{bytes_eq}

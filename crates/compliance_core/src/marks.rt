@@ -179,4 +179,3 @@ pub(crate) fn count_findings(findings: &[Finding], guideline: Guideline) -> usiz
         .filter(|finding| finding.guideline == guideline)
         .count()
 }
-

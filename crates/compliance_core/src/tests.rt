@@ -1,6 +1,6 @@
-use crate::{PlanStop, claim, covers, level, misra_plan, plan_from_toml, summary};
+use crate::{PlanStop, claim, covers, level, misra_plan, plan_from_toml, summary, with_category};
 use misra_base::{
-    Category, Deviation, Finding, FirstDeviation, Form, Guideline, Kind, Name, Place, Status,
+    Deviation, Finding, FirstDeviation, Form, Guideline, Kind, Name, Place, Plan, Status,
     SummaryRow,
 };
 use std::alloc::{AllocError, Global};
@@ -150,19 +150,21 @@ fn name(alloc: Global, text: &str) -> Result<Name, AllocError> {
     Name::from_bytes(alloc, text.as_bytes())
 }
 
+fn place(line: u32, column: u32) -> Place {
+    Place { line, column }
+}
+
 fn finding(
     alloc: Global,
     guideline: Guideline,
+    place: Place,
     function: &str,
     object: &str,
     kind: Kind,
 ) -> Result<Finding, AllocError> {
     Ok(Finding {
         guideline,
-        place: Place {
-            line: 17,
-            column: 15,
-        },
+        place,
         other: None,
         function: name(alloc, function)?,
         object: name(alloc, object)?,
@@ -194,7 +196,14 @@ fn approved(
 fn pattern_covers(alloc: Global, pattern: &str, object: &str) -> Result<bool, AllocError> {
     let mut deviation = Deviation::from_first(approved(alloc, Guideline::R22_11, "main", pattern)?);
     deviation.form = Form::Pattern;
-    let finding = finding(alloc, Guideline::R22_11, "main", object, Kind::Again)?;
+    let finding = finding(
+        alloc,
+        Guideline::R22_11,
+        place(17, 15),
+        "main",
+        object,
+        Kind::Again,
+    )?;
     Ok(covers(&misra_plan(), &deviation, &finding))
 }
 
@@ -245,23 +254,41 @@ fn row_text(alloc: Global, row: &SummaryRow) -> Result<String, AllocError> {
     format!(in alloc; "{guideline} {category} {level} {uncovered} {deviated}")
 }
 
-// Two threads write one object under two mutexes, and a deviation is for the one function, or for all.
+/// A race of two accesses to `x`, in functions `first` and `second`, with its lines moved by some.
+fn race(alloc: Global, moved: u32) -> Result<Vec<Finding>, AllocError> {
+    let (one, other) = (place(11 + moved % 2, 5), place(19 + moved % 2, 5));
+    let mut findings = Vec::new(alloc);
+    for (function, here, there) in [("first", one, other), ("second", other, one)] {
+        let mut finding = finding(alloc, Guideline::D5_1, here, function, "x", Kind::Race)?;
+        finding.other = Some(there);
+        findings.push(finding)?;
+    }
+    Ok(findings)
+}
+
+// Two threads write one object under two mutexes, and a deviation is for the one function, or for all. The same holds
+// where the text has one more line at its beginning.
 #[test]
 fn covered_findings_are_counted_as_deviated(rt: HostRuntime) -> Result<(), Fail> {
     let alloc = rt.alloc();
     let plan = misra_plan();
-    let findings = vec![in alloc;
-        finding(alloc, Guideline::D5_1, "first", "x", Kind::Race)?,
-        finding(alloc, Guideline::D5_1, "second", "x", Kind::Race)?,
-    ]?;
-    for (function, want, failing) in [
+    for (function, moved, want, failing) in [
         (
             "first",
+            0,
             "D5.1 Required Violations 1 1",
             Some(Guideline::D5_1),
         ),
-        ("*", "D5.1 Required Deviations 0 2", None),
+        (
+            "first",
+            1,
+            "D5.1 Required Violations 1 1",
+            Some(Guideline::D5_1),
+        ),
+        ("*", 0, "D5.1 Required Deviations 0 2", None),
+        ("*", 1, "D5.1 Required Deviations 0 2", None),
     ] {
+        let findings = race(alloc, moved)?;
         let first = approved(alloc, Guideline::D5_1, function, "x")?;
         let deviations = vec![in alloc; Deviation::from_first(first)]?;
         let rows = summary(&plan, &deviations, &findings);
@@ -284,11 +311,46 @@ fn a_pattern_covers_what_the_same_text_without_a_form_does_not(
     let alloc = rt.alloc();
     let plan = misra_plan();
     let findings = vec![in alloc;
-        finding(alloc, Guideline::D5_3, "main", "-", Kind::Repeated)?,
-        finding(alloc, Guideline::R22_11, "main", "t[0]", Kind::Again)?,
-        finding(alloc, Guideline::R22_11, "main", "t[1]", Kind::Again)?,
-        finding(alloc, Guideline::R22_11, "main", "t[2]", Kind::Again)?,
-        finding(alloc, Guideline::R22_11, "main", "t[3]", Kind::Again)?,
+        finding(
+            alloc,
+            Guideline::D5_3,
+            place(13, 15),
+            "main",
+            "-",
+            Kind::Repeated
+        )?,
+        finding(
+            alloc,
+            Guideline::R22_11,
+            place(17, 15),
+            "main",
+            "t[0]",
+            Kind::Again
+        )?,
+        finding(
+            alloc,
+            Guideline::R22_11,
+            place(17, 15),
+            "main",
+            "t[1]",
+            Kind::Again
+        )?,
+        finding(
+            alloc,
+            Guideline::R22_11,
+            place(17, 15),
+            "main",
+            "t[2]",
+            Kind::Again
+        )?,
+        finding(
+            alloc,
+            Guideline::R22_11,
+            place(17, 15),
+            "main",
+            "t[3]",
+            Kind::Again
+        )?,
     ]?;
     for (form, want) in [
         (Form::Pattern, "R22.11 Required Deviations 0 4"),
@@ -311,16 +373,41 @@ fn a_pattern_covers_what_the_same_text_without_a_form_does_not(
     Ok(())
 }
 
+/// The plan with the entries of a text, or none where the text is refused.
+fn plan_with_entries(alloc: Global, text: &str) -> Option<Plan> {
+    let entries = plan_from_toml(alloc, text).ok()?;
+    let mut plan = misra_plan();
+    for (guideline, category) in entries.iter() {
+        plan = with_category(&plan, *guideline, *category);
+    }
+    Some(plan)
+}
+
 #[test]
-fn a_disapplied_guideline_has_no_violations(rt: HostRuntime) -> Result<(), Fail> {
+fn a_guideline_that_a_plan_disapplies_has_no_violations(rt: HostRuntime) -> Result<(), Fail> {
     let alloc = rt.alloc();
-    let plan = crate::with_category(&misra_plan(), Guideline::R15_5, Category::Disapplied);
-    let findings = vec![in alloc; finding(alloc, Guideline::R15_5, "main", "-", Kind::Return)?]?;
-    let rows = summary(&plan, &Vec::new(alloc), &findings);
-    assert_eq!(rt;
-        row_text(alloc, &rows[4])?.as_str(),
-        "R15.5 Disapplied Disapplied 1 0"
-    );
-    assert_eq!(rt; claim(&rows), None);
+    let text = "[categories]\n\"R15.5\" = \"Disapplied\"\n";
+    let findings = vec![in alloc;
+        finding(
+            alloc,
+            Guideline::R15_5,
+            place(5, 5),
+            "main",
+            "-",
+            Kind::Return
+        )?,
+    ]?;
+    for (plan, want) in [
+        (Some(misra_plan()), "R15.5 Advisory Violations 1 0"),
+        (
+            plan_with_entries(alloc, text),
+            "R15.5 Disapplied Disapplied 1 0",
+        ),
+    ] {
+        let plan = plan.expect(&rt, "the text is a plan");
+        let rows = summary(&plan, &Vec::new(alloc), &findings);
+        assert_eq!(rt; row_text(alloc, &rows[4])?.as_str(), want);
+        assert_eq!(rt; claim(&rows), None);
+    }
     Ok(())
 }
