@@ -1,12 +1,15 @@
 -- A deviation that covers a finding has one of its hashes.
-use Rattle.std.proofs.Common.{◌≡◌, ◌∙◌, ℕ, suc, zero, eqb, Bool, true, false, cond, not, ◌&&◌, ◌||◌, List, [], ◌∷◌, ◌++◌, take, drop, Option, Some, None, All, refl, sym, ap, subst, arith, ⊎_elim, ◌⊎◌, inl, inr, ◌+◌, codes}
+use Rattle.std.proofs.Common.{◌≡◌, ◌∙◌, ℕ, suc, zero, eqb, Bool, true, false, cond, not, ◌&&◌, ◌||◌, List, [], ◌∷◌, ◌++◌, take, drop, Option, Some, None, All, refl, sym, ap, subst, arith, ⊎_elim, ◌⊎◌, inl, inr, ◌+◌, ◌<◌, ◌≤◌, length, get_or, codes}
 use Rattle.std.specs.List.{prefix_len}
 use Rattle.std.specs.Char.{is_ascii_digit}
 use Rattle.std.specs.Prelude.{option_and_then}
 use Rattle.std.specs.Option.{option_map_or}
 use Rattle.std.specs.Str.{byte, bytes_eq}
 use Rattle.std.proofs.lemmas.Bool.{and_parts, cases_Bool, cond-true, cond-false, eqb-true}
+use Rattle.std.proofs.lemmas.List.{take_all}
+use Rattle.std.proofs.lemmas.List.Elements.{All-more}
 use Rattle.std.proofs.lemmas.Slice.Eq.{bytes_eq-Decides}
+use Rattle.misra_base.specs.declared.guideline.Guideline.{Guideline}
 use Rattle.misra_base.specs.declared.finding.Finding.{Finding}
 use Rattle.misra_base.specs.declared.deviation.Deviation.{Deviation}
 use Rattle.misra_base.specs.declared.deviation.Form.{Form}
@@ -14,8 +17,8 @@ use Rattle.misra_base.specs.declared.deviation.Form.TheVariants.{Text, Pattern}
 use Rattle.misra_base.specs.declared.category.Plan.{Plan}
 use Rattle.compliance_core.specs.Categories.{is_mandatory, revised_category}
 use Rattle.compliance_core.specs.Covers.{does_cover, is_approved, stands_as, stands_for}
-use Rattle.compliance_core.specs.Hashes.{HasFinding, HasObject, deviation_hash, fixed_part, hash_from, outside_from, words_hash}
-use Rattle.compliance_core.specs.Marks.{can_cover}
+use Rattle.compliance_core.specs.Hashes.{HasFinding, HasObject, IsFilter, deviation_hash, fixed_part, hash_from, outside_from, words_hash}
+use Rattle.compliance_core.specs.Marks.{can_cover, is_other}
 use Rattle.compliance_core.specs.Patterns.{after_byte, after_digits, after_index, begins_with_any, filled_past, is_filled}
 use Rattle.compliance_core.proofs.PatternLemmas.{any_shape}
 
@@ -171,3 +174,22 @@ hash_of_cover has plan d f all h =
     (λ (same : words_hash 0 d.function d.function ≡ hash_from 0 f.function).
     ap (λ n. has (words_hash n d.object (fixed_part d.form d.object))) same ∙ object_part has (hash_from 0 f.function) d.form d.object f.object all.1 parts.1)
     (function_part d.function f.function function)
+
+-- ---- findings that are put in
+
+kept_hashes : (has new : ℕ → Bool) (f : Finding) → ((k : ℕ) → has k ≡ true → new k ≡ true) → HasFinding has f → HasFinding new f
+kept_hashes has new f grow h =
+    let own = hash_from 0 f.function in (
+      (grow 0 h.0.0, grow (hash_from 0 f.object) h.0.1, grow (hash_from 0 (outside_from false f.object)) h.0.2),
+      (grow own h.1.0, grow (hash_from own f.object) h.1.1, grow (hash_from own (outside_from false f.object)) h.1.2),
+    )
+
+pub filter_more : (has new : ℕ → Bool) (g : Guideline) (findings : List Finding) (i : ℕ) (f : Finding) → i < length findings → f ≡ get_or findings i f
+    → ((k : ℕ) → has k ≡ true → new k ≡ true) → IsFilter has g (take i findings) → (is_other g f ≡ false → HasFinding new f) → IsFilter new g (take (i + 1) findings)
+filter_more has new g findings i f inside is grow before here =
+    All-more (λ x. is_other g x ≡ false → HasFinding new x) findings i f inside
+    (λ k d below own. kept_hashes has new (get_or (take i findings) k d) grow (before k d below own))
+    (subst (λ x. is_other g x ≡ false → HasFinding new x) is here)
+
+pub filter_done : (has : ℕ → Bool) (g : Guideline) (findings : List Finding) (i : ℕ) → length findings ≤ i → IsFilter has g (take i findings) → IsFilter has g findings
+filter_done has g findings i ended h = subst (λ xs. IsFilter has g xs) (take_all i findings ended) h

@@ -1,6 +1,7 @@
 //! A Bloom filter of findings: it tells fast of most deviations that they cover none of them.
 ghost use Rattle.std.specs.Prelude.{◌≡◌, ◌<◌, ℕ, false, true};
 ghost use Rattle.misra_base.specs.Rows.{has_bit};
+ghost use Rattle.compliance_core.specs.Marks.{is_other};
 ghost use Rattle.compliance_core.specs.Hashes.{hash_count, next_hash as hash_with, hash_from as hash_behind, outside_from, words_hash as hash_of_words, fixed_part, deviation_hash as hash_of_deviation, HasObject, HasFinding, IsFilter};
 
 use misra_base::{BitRow, Deviation, Finding, Form, Guideline, Name};
@@ -109,15 +110,23 @@ fn add_finding(hashes: &mut Hashes, finding: &Finding)
     add_object(hashes, hash, &finding.object);
 }
 
+/// Puts in the hashes of a finding of the guideline, and none of another one.
+fn add_own(hashes: &mut Hashes, finding: &Finding, guideline: Guideline)
+    ensures has { is_other guideline finding.now ≡ false → HasFinding (has_bit hashes.new) finding.now }
+    ensures kept { (k : ℕ) → has_bit hashes.old k ≡ true → has_bit hashes.new k ≡ true }
+{
+    if finding.guideline == guideline {
+        add_finding(hashes, finding);
+    }
+}
+
 /// The hashes of the findings of the guideline.
 pub(crate) fn hashes_of(findings: &[Finding], guideline: Guideline) -> Hashes
     ensures { IsFilter (has_bit result) guideline findings.now }
 {
     let mut hashes = Hashes::new();
     for finding in findings {
-        if finding.guideline == guideline {
-            add_finding(&mut hashes, finding);
-        }
+        add_own(&mut hashes, finding, guideline);
     }
     hashes
 }
