@@ -1,1 +1,6 @@
 pub mod Places
+pub mod Comments
+pub mod Lexemes
+pub mod Parts
+pub mod Keywords
+pub mod Values
