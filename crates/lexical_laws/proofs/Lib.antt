@@ -1,1 +1,4 @@
 mod Rising
+mod Closing
+mod Counting
+mod Reserved
