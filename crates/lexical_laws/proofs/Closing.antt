@@ -27,13 +27,13 @@ with_byte b bs h = (b ∷ h.0, h.1, ap (λ (xs : List ℕ). b ∷ xs) h.2)
 
 has_close : (b : ℕ) (bs : List ℕ) → closes b bs ≡ true → HasClose (b ∷ bs)
 has_close b [] e = absurd (true≢false (sym e))
-has_close b (c ∷ cs) e = here (b == 42) (c == 47) refl refl e
+has_close b (c ∷ cs) e = here (b == 42) (c == 47) refl refl e (has_close c cs)
   where
-    here : (x y : Bool) → (b == 42) ≡ x → (c == 47) ≡ y → cond (x && y) true (closes c cs) ≡ true → HasClose (b ∷ c ∷ cs)
-    here true true is_x is_y h =
+    here : (x y : Bool) → (b == 42) ≡ x → (c == 47) ≡ y → cond (x && y) true (closes c cs) ≡ true → (closes c cs ≡ true → HasClose (c ∷ cs)) → HasClose (b ∷ c ∷ cs)
+    here true true is_x is_y h later =
         ([], cs, ap (λ (n : ℕ). n ∷ c ∷ cs) (eqb-true b 42 is_x) ∙ ap (λ (n : ℕ). 42 ∷ n ∷ cs) (eqb-true c 47 is_y))
-    here true false is_x is_y h = with_byte b (c ∷ cs) (has_close c cs h)
-    here false y is_x is_y h = with_byte b (c ∷ cs) (has_close c cs h)
+    here true false is_x is_y h later = with_byte b (c ∷ cs) (later h)
+    here false y is_x is_y h later = with_byte b (c ∷ cs) (later h)
 
 stays_true : (b c : Bool) → c ≡ true → cond b true c ≡ true
 stays_true true c e = refl
@@ -59,11 +59,11 @@ no_close body e h = true≢false (sym (seen_closed 0 h.0 h.1) ∙ ap (λ (bs : L
 
 never_ends : (count before : ℕ) (body : List ℕ) → closes before body ≡ false → comment_end count before body ≡ None
 never_ends count before [] e = refl
-never_ends count before (b ∷ bs) e = here (before == 42 && b == 47) e
+never_ends count before (b ∷ bs) e = here (before == 42 && b == 47) e (never_ends (count + 1) b bs)
   where
-    here : (x : Bool) → cond x true (closes b bs) ≡ false → cond x (Some (count + 1)) (comment_end (count + 1) b bs) ≡ None
-    here true h = absurd (true≢false h)
-    here false h = never_ends (count + 1) b bs h
+    here : (x : Bool) → cond x true (closes b bs) ≡ false → (closes b bs ≡ false → comment_end (count + 1) b bs ≡ None) → cond x (Some (count + 1)) (comment_end (count + 1) b bs) ≡ None
+    here true h later = absurd (true≢false h)
+    here false h later = later h
 
 same_size : (a b : ℕ) → a ≡ b → Some a ≡ Some b
 same_size a b e = ap (λ (n : ℕ). Some n) e
@@ -75,12 +75,13 @@ ends_at count before [] rest e = here (before == 42)
     here : (x : Bool) → cond (x && 42 == 47) (Some (count + 1)) (Some (count + 1 + 1)) ≡ Some (count + (0 + 2))
     here true = same_size (count + 1 + 1) (count + (0 + 2)) (omega arith)
     here false = same_size (count + 1 + 1) (count + (0 + 2)) (omega arith)
-ends_at count before (b ∷ bs) rest e = here (before == 42 && b == 47) e
+ends_at count before (b ∷ bs) rest e = here (before == 42 && b == 47) e (ends_at (count + 1) b bs rest)
   where
     here : (x : Bool) → cond x true (closes b bs) ≡ false
+        → (closes b bs ≡ false → comment_end (count + 1) b (bs ++ 42 ∷ 47 ∷ rest) ≡ Some (count + 1 + (length bs + 2)))
         → cond x (Some (count + 1)) (comment_end (count + 1) b (bs ++ 42 ∷ 47 ∷ rest)) ≡ Some (count + (length (b ∷ bs) + 2))
-    here true h = absurd (true≢false h)
-    here false h = ends_at (count + 1) b bs rest h ∙ same_size (count + 1 + (length bs + 2)) (count + (length (b ∷ bs) + 2)) (omega arith)
+    here true h later = absurd (true≢false h)
+    here false h later = later h ∙ same_size (count + 1 + (length bs + 2)) (count + (length (b ∷ bs) + 2)) (omega arith)
 
 -- ---- the first `*/`
 
@@ -88,14 +89,14 @@ ends_at count before (b ∷ bs) rest e = here (before == 42 && b == 47) e
 pub record Closed (bytes : List ℕ) : Type 0 where
   pub body : List ℕ
   pub rest : List ℕ
-  pub open : closes_in body ≡ false
+  pub unclosed : closes_in body ≡ false
   pub whole : bytes ≡ body ++ 42 ∷ 47 ∷ rest
 
 one_more : (b c : ℕ) (cs body rest : List ℕ) → (b == 42 && c == 47) ≡ false → closes_in body ≡ false → c ∷ cs ≡ body ++ 42 ∷ 47 ∷ rest → closes b body ≡ false
-one_more b c cs [] rest no open whole = refl
-one_more b c cs (x ∷ xs) rest no open whole =
+one_more b c cs [] rest differ unclosed whole = refl
+one_more b c cs (x ∷ xs) rest differ unclosed whole =
     let first : c ≡ x = ap (λ (bs : List ℕ). first_or bs) whole in
-    subst (λ (n : ℕ). cond (b == 42 && n == 47) true (closes x xs) ≡ false) first (rw no open)
+    subst (λ (n : ℕ). cond (b == 42 && n == 47) true (closes x xs) ≡ false) first (rw differ unclosed)
   where
     first_or : List ℕ → ℕ
     first_or [] = 0
@@ -103,52 +104,53 @@ one_more b c cs (x ∷ xs) rest no open whole =
 
 first_close : (b : ℕ) (bs : List ℕ) → closes b bs ≡ true → Closed (b ∷ bs)
 first_close b [] e = absurd (true≢false (sym e))
-first_close b (c ∷ cs) e = here (b == 42) (c == 47) refl refl e
+first_close b (c ∷ cs) e = here (b == 42) (c == 47) refl refl e (first_close c cs)
   where
-    further : (b == 42 && c == 47) ≡ false → closes c cs ≡ true → Closed (b ∷ c ∷ cs)
-    further no h =
-        let later = first_close c cs h in
+    further : (b == 42 && c == 47) ≡ false → Closed (c ∷ cs) → Closed (b ∷ c ∷ cs)
+    further differ later =
         record {
           body = b ∷ later.body;
           rest = later.rest;
-          open = one_more b c cs later.body later.rest no later.open later.whole;
+          unclosed = one_more b c cs later.body later.rest differ later.unclosed later.whole;
           whole = ap (λ (xs : List ℕ). b ∷ xs) later.whole;
         }
-    here : (x y : Bool) → (b == 42) ≡ x → (c == 47) ≡ y → cond (x && y) true (closes c cs) ≡ true → Closed (b ∷ c ∷ cs)
-    here true true is_x is_y h =
+    here : (x y : Bool) → (b == 42) ≡ x → (c == 47) ≡ y → cond (x && y) true (closes c cs) ≡ true → (closes c cs ≡ true → Closed (c ∷ cs)) → Closed (b ∷ c ∷ cs)
+    here true true is_x is_y h later =
         record {
           body = [];
           rest = cs;
-          open = refl;
+          unclosed = refl;
           whole = ap (λ (n : ℕ). n ∷ c ∷ cs) (eqb-true b 42 is_x) ∙ ap (λ (n : ℕ). 42 ∷ n ∷ cs) (eqb-true c 47 is_y);
         }
-    here true false is_x is_y h = further (rw (is_x, is_y) refl) h
-    here false y is_x is_y h = further (rw is_x refl) h
+    here true false is_x is_y h later = further (rw (is_x, is_y) refl) (later h)
+    here false y is_x is_y h later = further (rw is_x refl) (later h)
 
 -- what is passed over as a comment behind `/*` is one
 pub record Comment (bs : List ℕ) (more : ℕ) : Type 0 where
   pub body : List ℕ
   pub rest : List ℕ
-  pub open : closes 0 body ≡ false
+  pub unclosed : closes 0 body ≡ false
   pub whole : bs ≡ body ++ 42 ∷ 47 ∷ rest
   pub size : more ≡ length body + 2
 
 comment_in : (bs : List ℕ) (more : ℕ) → Closed bs → comment_end 0 0 bs ≡ Some more → Comment bs more
 comment_in bs more closed e =
-    let open : closes 0 closed.body ≡ false = still closed.body closed.open in
+    let unclosed : closes 0 closed.body ≡ false = still closed.body closed.unclosed in
     record {
       body = closed.body;
       rest = closed.rest;
-      open = open;
+      unclosed = unclosed;
       whole = closed.whole;
-      size = some_same (sym e ∙ ap (λ (xs : List ℕ). comment_end 0 0 xs) closed.whole ∙ ends_at 0 0 closed.body closed.rest open);
+      size = some_same (length closed.body + 2) (sym e ∙ ap (λ (xs : List ℕ). comment_end 0 0 xs) closed.whole ∙ ends_at 0 0 closed.body closed.rest unclosed);
     }
   where
     still : (body : List ℕ) → closes_in body ≡ false → closes 0 body ≡ false
     still [] h = refl
     still (x ∷ xs) h = h
-    some_same : {m : ℕ} → Some more ≡ Some (0 + m) → more ≡ m
-    some_same h = cc
+    inner : (m : ℕ) → Some more ≡ Some m → more ≡ m
+    inner m h = cc
+    some_same : (m : ℕ) → Some more ≡ Some (0 + m) → more ≡ m
+    some_same m h = omega (arith, inner (0 + m) h)
 
 pub comment_of : (bs : List ℕ) (more : ℕ) → comment_end 0 0 bs ≡ Some more → Comment bs more
 comment_of [] more e = absurd_none e
@@ -171,12 +173,12 @@ comment_of (b ∷ bs) more e = here (closes b bs) refl
 pub block_passed : BlockCommentIsPassed
 block_passed fresh comment rest is =
     let body = is.0 in
-    let open : closes 0 body ≡ false = not_closed body is.1 in
+    let unclosed : closes 0 body ≡ false = not_closed body is.1 in
     let spelled : comment ++ rest ≡ 47 ∷ 42 ∷ (body ++ 42 ∷ 47 ∷ rest) =
     ap (λ (xs : List ℕ). xs ++ rest) is.2 ∙ ap (λ (xs : List ℕ). 47 ∷ 42 ∷ xs) (append_assoc body (42 ∷ 47 ∷ []) rest) in
     let long : length comment ≡ length body + 4 = ap (λ (xs : List ℕ). length xs) is.2 ∙ size body in
     let passed : piece_at fresh (47 ∷ 42 ∷ (body ++ 42 ∷ 47 ∷ rest)) ≡ Passed (length body + 4) =
-    ap (λ (o : Option ℕ). comment_piece o) (ends_at 0 0 body rest open) ∙ ap (λ (n : ℕ). Passed n) (sizes (length body)) in
+    ap (λ (o : Option ℕ). comment_piece o) (ends_at 0 0 body rest unclosed) ∙ ap (λ (n : ℕ). Passed n) (sizes (length body)) in
     ap (λ (xs : List ℕ). piece_at fresh xs) spelled ∙ passed ∙ ap (λ (n : ℕ). Passed n) (sym long)
   where
     sizes : (n : ℕ) → 0 + (n + 2) + 2 ≡ n + 4
@@ -199,7 +201,7 @@ whole_line (b ∷ bs) rest each ends = rw each.0 (omega (arith, whole_line bs re
 pub line_passed : LineCommentIsPassed
 line_passed fresh comment rest is ends =
     let body = is.0 in
-    let rest_of : prefix_len is_in_line (body ++ rest) ≡ length body = whole_line body rest (recursion_from_All body is.1) ends in
+    let rest_of : prefix_len is_in_line (body ++ rest) ≡ length body = whole_line body rest (recursion_from_All (λ b. is_in_line b ≡ true) body is.1) ends in
     let spelled : comment ++ rest ≡ 47 ∷ 47 ∷ (body ++ rest) = ap (λ (xs : List ℕ). xs ++ rest) is.2 in
     let long : length comment ≡ suc (1 + length body) = ap (λ (xs : List ℕ). length xs) is.2 ∙ sizes (length body) in
     let passed : piece_at fresh (47 ∷ 47 ∷ (body ++ rest)) ≡ Passed (suc (1 + length body)) = ap (λ (n : ℕ). Passed (suc (1 + n))) rest_of in

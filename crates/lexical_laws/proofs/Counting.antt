@@ -1,12 +1,11 @@
 -- What an integer literal counts.
-use Rattle.std.proofs.Common.{◌≡◌, ◌≢◌, ◌⊎◌, inl, inr, ◌<◌, ◌≤◌, ◌==◌, ◌+◌, ◌*◌, ◌^◌, ℕ, suc, zero, Bool, true, false, cond, ◌&&◌, ◌||◌, List, [], ◌∷◌, ◌++◌, length, take, drop, All, Option, Some, None, is_some, refl, sym, ap, ◌∙◌, subst, codes, option_map, option_and_then, add-mul, mul_assoc, arith}
+use Rattle.std.proofs.Common.{◌≡◌, ◌≢◌, ◌⊎◌, inl, inr, ◌<◌, ◌≤◌, ◌==◌, ◌+◌, ◌*◌, ◌^◌, ℕ, suc, zero, Bool, true, false, cond, ◌&&◌, ◌||◌, List, [], ◌∷◌, ◌++◌, length, take, drop, All, Option, Some, None, is_some, refl, sym, ap, ◌∙◌, subst, codes, option_map, option_and_then, add-mul, mul_assoc, mul_comm, arith}
 use Rattle.std.specs.List.{prefix_len, AllByRecursion}
-use Rattle.std.proofs.lemmas.Bool.{eqb-true, ltb-true, true≢false}
-use Rattle.std.proofs.lemmas.List.{take-append-drop}
+use Rattle.std.proofs.lemmas.Bool.{eqb-true, eqb-false, ltb-true, true≢false}
+use Rattle.std.proofs.lemmas.List.{take-append-drop, length-take-le}
 use Rattle.std.proofs.lemmas.List.Elements.{All-from_recursion}
 use Rattle.std.proofs.Math.Nat.{pow-zero, pow-succ'}
 use Rattle.std.proofs.lemmas.List.Sums.{prefix_len-le-length}
-use Rattle.c_lexer.specs.declared.integer.Suffix.{Suffix}
 use Rattle.c_lexer.specs.declared.integer.IntegerType.{IntegerType}
 use Rattle.c_lexer.specs.declared.integer.IntegerLiteral.{IntegerLiteral}
 use Rattle.c_lexer.specs.Numbers.{begins_hexadecimal}
@@ -37,30 +36,34 @@ first_counts base last (d ∷ ds) =
     omega (arith, moved, later, shared)
   where
     turned : (a b c : ℕ) → a * (b * c) ≡ a * c * b
-    turned a b c = ring
+    turned a b c = ap (λ (n : ℕ). a * n) (mul_comm b c) ∙ sym (mul_assoc a c b)
 
 -- ---- the literal in its parts
 
 digits_pass : (base : ℕ) (bs : List ℕ) → AllByRecursion (λ b. digit_value b < base) (take (prefix_len (is_digit_of base) bs) bs)
 digits_pass base [] = tt
-digits_pass base (b ∷ bs) = here (is_digit_of base b) refl
+digits_pass base (b ∷ bs) = here (is_digit_of base b) refl (digits_pass base bs)
   where
-    here : (x : Bool) → is_digit_of base b ≡ x → AllByRecursion (λ b. digit_value b < base) (take (cond x (1 + prefix_len (is_digit_of base) bs) 0) (b ∷ bs))
-    here true e = (ltb-true (digit_value b) base e, digits_pass base bs)
-    here false e = tt
+    one : suc (prefix_len (is_digit_of base) bs) ≡ 1 + prefix_len (is_digit_of base) bs
+    one = omega arith
+    here : (x : Bool) → is_digit_of base b ≡ x → AllByRecursion (λ b. digit_value b < base) (take (prefix_len (is_digit_of base) bs) bs)
+        → AllByRecursion (λ b. digit_value b < base) (take (cond x (1 + prefix_len (is_digit_of base) bs) 0) (b ∷ bs))
+    here true e later = subst (λ (n : ℕ). AllByRecursion (λ b. digit_value b < base) (take n (b ∷ bs))) one (ltb-true (digit_value b) base e, later)
+    here false e later = tt
 
 -- a literal of a body
 pub record InBody (base : ℕ) (body : List ℕ) (literal : IntegerLiteral) : Type 0 where
   pub digits : List ℕ
   pub suffix : List ℕ
   pub whole : body ≡ digits ++ suffix
-  pub front : (n : ℕ) × (digits ≡ take (suc n) body)
+  pub size : ℕ
+  pub front : digits ≡ take size body
   pub some : 0 < length digits
   pub each : All (λ digit. digit_value digit < base) digits
   pub ends : is_some (suffix_of suffix) ≡ true
   pub value : literal.value ≡ place_value base digits
 
-value_or : Option IntegerLiteral → ℕ
+abbrev value_or : Option IntegerLiteral → ℕ
 value_or None = 0
 value_or (Some literal) = literal.value
 
@@ -72,34 +75,37 @@ value_is value literal None e = absurd_none e
     absurd_none h = cc
 value_is value literal (Some k) e = sym (ap value_or e)
 
-some_taken : (n : ℕ) (bs : List ℕ) → suc n ≤ length bs → 0 < length (take (suc n) bs)
-some_taken n [] within = absurd (omega (arith, within))
-some_taken n (b ∷ bs) within = omega arith
-
-in_body : (base n : ℕ) (body : List ℕ) (literal : IntegerLiteral) → n ≤ length body → AllByRecursion (λ b. digit_value b < base) (take n body)
-    → literal_of base n body ≡ Some literal → InBody base body literal
-in_body base zero body literal within each e = absurd (none e)
+after_suffix : {S : Type 0} (o : Option S) (f : S → Option IntegerLiteral) (literal : IntegerLiteral) → option_and_then f o ≡ Some literal
+    → (is_some o ≡ true) × ((s : S) × (f s ≡ Some literal))
+after_suffix None f literal e = absurd (none e)
   where
     none : None ≡ Some literal → ⊥
     none h = cc
-in_body base (suc n) body literal within each e = here (suffix_of (drop (suc n) body)) refl e
+after_suffix (Some s) f literal e = (refl, (s, e))
+
+in_body : (base n : ℕ) (body : List ℕ) (literal : IntegerLiteral) → n ≤ length body → AllByRecursion (λ b. digit_value b < base) (take n body)
+    → literal_of base n body ≡ Some literal → InBody base body literal
+in_body base n body literal within each e = here (n == 0) refl e
   where
-    here : (suffix : Option Suffix) → suffix_of (drop (suc n) body) ≡ suffix
-        → option_and_then (λ (s : Suffix). typed (place_value base (take (suc n) body)) (base == 10) s) suffix ≡ Some literal → InBody base body literal
-    here None is h = absurd (none h)
+    value : ℕ
+    value = place_value base (take n body)
+    here : (x : Bool) → (n == 0) ≡ x → cond x None (option_and_then (λ s. typed value (base == 10) s) (suffix_of (drop n body))) ≡ Some literal → InBody base body literal
+    here true is h = absurd (none h)
       where
         none : None ≡ Some literal → ⊥
-        none same = cc
-    here (Some s) is h =
+        none k = cc
+    here false is h =
+        let found = after_suffix (suffix_of (drop n body)) (λ s. typed value (base == 10) s) literal h in
         record {
-          digits = take (suc n) body;
-          suffix = drop (suc n) body;
-          whole = sym (take-append-drop (suc n) body);
-          front = (n, refl);
-          some = some_taken n body within;
-          each = All-from_recursion (λ digit. digit_value digit < base) (take (suc n) body) each;
-          ends = ap (λ (o : Option Suffix). is_some o) is;
-          value = value_is (place_value base (take (suc n) body)) literal (first_type (place_value base (take (suc n) body)) (types_of (base == 10) s)) h;
+          digits = take n body;
+          suffix = drop n body;
+          whole = sym (take-append-drop n body);
+          size = n;
+          front = refl;
+          some = omega (arith, length-take-le n body within, eqb-false n 0 is);
+          each = All-from_recursion (λ digit. digit_value digit < base) (take n body) each;
+          ends = found.0;
+          value = value_is value literal (first_type value (types_of (base == 10) found.1.0)) found.1.1;
         }
 
 read_body : (base : ℕ) (body : List ℕ) (literal : IntegerLiteral) → literal_of base (prefix_len (is_digit_of base) body) body ≡ Some literal → InBody base body literal
@@ -140,9 +146,10 @@ hexadecimal_front (a ∷ b ∷ bs) e = here (a == 48) (b == 120) (b == 88) refl 
     here true false false is_a is_b is_c h = absurd (true≢false (sym h))
     here false y z is_a is_b is_c h = absurd (true≢false (sym h))
 
-zero_front : (n : ℕ) (text digits : List ℕ) → digits ≡ take (suc n) text → begins_zero digits ≡ begins_zero text
-zero_front n [] digits is = ap (λ (bs : List ℕ). begins_zero bs) is
-zero_front n (b ∷ bs) digits is = ap (λ (bs : List ℕ). begins_zero bs) is
+zero_front : (n : ℕ) (text digits : List ℕ) → 0 < length digits → digits ≡ take n text → begins_zero digits ≡ begins_zero text
+zero_front zero text digits some is = absurd (omega (arith, some, ap (λ (bs : List ℕ). length bs) is))
+zero_front (suc n) [] digits some is = ap (λ (bs : List ℕ). begins_zero bs) is
+zero_front (suc n) (b ∷ bs) digits some is = ap (λ (bs : List ℕ). begins_zero bs) is
 
 pub its_digits : LiteralIsItsDigits
 unfolding integer_literal
@@ -156,7 +163,7 @@ its_digits text literal e = here (begins_hexadecimal text) (begins_zero text) re
         written text front.0 16 (drop 2 text) literal front.2 (read_body 16 (drop 2 text) literal h) (inl (refl, front.1))
     here false true is_h is_z h =
         let read = read_body 8 text literal h in
-        written text [] 8 text literal refl read (inr (inl (refl, refl, zero_front read.front.0 text read.digits read.front.1 ∙ is_z)))
+        written text [] 8 text literal refl read (inr (inl (refl, refl, zero_front read.size text read.digits read.some read.front ∙ is_z)))
     here false false is_h is_z h =
         let read = read_body 10 text literal h in
-        written text [] 10 text literal refl read (inr (inr (refl, refl, zero_front read.front.0 text read.digits read.front.1 ∙ is_z)))
+        written text [] 10 text literal refl read (inr (inr (refl, refl, zero_front read.size text read.digits read.some read.front ∙ is_z)))

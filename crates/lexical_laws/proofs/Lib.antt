@@ -2,3 +2,6 @@ mod Rising
 mod Closing
 mod Counting
 mod Reserved
+mod Beginnings
+mod Longest
+mod Cuts

@@ -27,11 +27,12 @@ use Rattle.lexical_laws.specs.Keywords.{keywords, IsName, KeywordIsNoIdentifier,
 -- a test that all words of a list pass
 passed_by : (test : List ℕ → Bool) (words : List (List ℕ)) → list_all test words ≡ true → AllByRecursion (λ w. test w ≡ true) words
 passed_by test [] e = tt
-passed_by test (w ∷ ws) e = here (test w) refl e
+passed_by test (w ∷ ws) e = here (test w) refl e (passed_by test ws)
   where
-    here : (b : Bool) → test w ≡ b → (b && list_all test ws) ≡ true → (test w ≡ true) × AllByRecursion (λ w. test w ≡ true) ws
-    here true is h = (is, passed_by test ws h)
-    here false is h = absurd (true≢false (sym h))
+    here : (b : Bool) → test w ≡ b → (b && list_all test ws) ≡ true → (list_all test ws ≡ true → AllByRecursion (λ w. test w ≡ true) ws)
+        → (test w ≡ true) × AllByRecursion (λ w. test w ≡ true) ws
+    here true is h later = (is, later h)
+    here false is h later = absurd (true≢false (sym h))
 
 at_word : (test : List ℕ → Bool) (words : List (List ℕ)) (word : List ℕ) → list_all test words ≡ true → Contains words word → test word ≡ true
 at_word test words word e among = All-contains (λ w. test w ≡ true) words word (All-from_recursion (λ w. test w ≡ true) words (passed_by test words e)) among
@@ -100,8 +101,8 @@ still_unnamed text names token h = here (has_class Identifier token) (is_name na
     here true true is among =
         let none : is_name_class 0 ≡ false = subst (λ (n : ℕ). is_name_class n ≡ false) (eqb-true token.class 0 is) (h among) in
         absurd (true≢false none)
-    here true false is = h
-    here false b is = h
+    here true false is among = h among
+    here false b is among = h among
 
 named_unnamed : (text : List ℕ) (stretch : Stretch) (names : List (List ℕ)) (tokens : List Token) → AllByRecursion (IsUnnamed text) tokens
     → AllByRecursion (IsUnnamed text) (named_from text stretch names tokens)

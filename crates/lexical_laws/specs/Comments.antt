@@ -7,7 +7,7 @@ use Rattle.c_lexer.specs.Pieces.{piece_at}
 
 -- `*/` stands somewhere in these bytes
 abbrev pub HasClose : List ℕ → Type 0
-HasClose bytes = (before after : List ℕ) × (bytes ≡ before ++ codes "*/" ++ after)
+HasClose bytes = (before after : List ℕ) × (bytes ≡ before ++ (codes "*/" ++ after))
 
 -- `/*`, a body without `*/`, and `*/`
 abbrev pub IsBlockComment : List ℕ → Type 0

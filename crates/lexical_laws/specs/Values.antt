@@ -16,7 +16,7 @@ pub record IsWritten (text : List ℕ) (literal : IntegerLiteral) : Type 0 where
   pub prefix : List ℕ
   pub digits : List ℕ
   pub suffix : List ℕ
-  pub whole : text ≡ prefix ++ digits ++ suffix
+  pub whole : text ≡ prefix ++ (digits ++ suffix)
   pub in_base : IsBase base prefix digits
   pub some : 0 < length digits
   pub each : All (λ digit. digit_value digit < base) digits
