@@ -5,3 +5,4 @@ mod Reserved
 mod Beginnings
 mod Longest
 mod Cuts
+mod Laying
