@@ -11,14 +11,8 @@ use Rattle.c_lexer.specs.Identifiers.{is_word}
 use Rattle.c_lexer.specs.Literals.{character_literal, escape_value, is_plain}
 use Rattle.c_lexer.specs.Numbers.{begins_digit, begins_number}
 use Rattle.c_lexer.specs.Punctuators.{is_punctuator, threes, pairs}
+use Rattle.lexical_laws.specs.Classes.{kind_at}
 use Rattle.lexical_laws.specs.Lexemes.{IsConstant, IsPunctuator, IsLexeme, IsToken}
-
--- the kind by the first two bytes
-abbrev pub kind_at : List ℕ → Option LexemeKind
-kind_at [] = None
-kind_at (b ∷ bs) =
-    cond (is_letter b) (Some Word)
-    (cond (begins_number (b ∷ bs)) (Some Number) (cond (b == 39) (Some Character) (cond (b == 34) (Some String) (cond (is_punctuator b) (Some Punctuator) None))))
 
 -- ---- bytes
 
@@ -154,7 +148,7 @@ mark_kind text (inl is) = All-contains (λ w. kind_at w ≡ Some Punctuator) thr
 mark_kind text (inr (inl is)) = All-contains (λ w. kind_at w ≡ Some Punctuator) pairs text (All-from_recursion (λ w. kind_at w ≡ Some Punctuator) pairs pairs_kind) is
 mark_kind text (inr (inr (b, is, e))) = subst (λ (bs : List ℕ). kind_at bs ≡ Some Punctuator) (sym is) (one_kind b e)
 
-kind_of : (kind : LexemeKind) (text : List ℕ) → IsLexeme kind text → kind_at text ≡ Some kind
+pub kind_of : (kind : LexemeKind) (text : List ℕ) → IsLexeme kind text → kind_at text ≡ Some kind
 kind_of Word text is = word_kind text is
 kind_of Number text is = constant_kind text is
 kind_of Character text is = character_kind text is

@@ -19,8 +19,9 @@ use Rattle.c_lexer.specs.Literals.{character_literal, escape_value, is_plain}
 use Rattle.c_lexer.specs.Numbers.{begins_number, begins_hexadecimal, number_rest}
 use Rattle.c_lexer.specs.Pieces.{piece_at, number_piece, character_length, no_character, character_piece, string_piece, comment_piece, slash_piece, hash_piece, other_piece}
 use Rattle.c_lexer.specs.Punctuators.{is_punctuator, threes, pairs, begins_with_any, punctuator_length}
+use Rattle.lexical_laws.specs.Classes.{kind_at}
 use Rattle.lexical_laws.specs.Lexemes.{IsString, IsPunctuator, IsLexeme, IsLongest, LongestTokenIsCut}
-use Rattle.lexical_laws.proofs.Beginnings.{kind_at, punctuator_kind}
+use Rattle.lexical_laws.proofs.Beginnings.{punctuator_kind}
 use Rattle.lexical_laws.proofs.Longest.{CutOf, longest_of_kind, word_cut, number_cut}
 
 -- ---- characters

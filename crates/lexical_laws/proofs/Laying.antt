@@ -95,28 +95,18 @@ front_of_word word bytes n size each e =
 no_front : (bytes : List ℕ) → LineFront 0 bytes
 no_front bytes = record { within = omega arith; each = tt }
 
+first : (bytes word : List ℕ) (n rest : ℕ) (x : Bool) → starts_with nat_eq bytes word ≡ x → length word ≡ n → AllInLine word → LineFront rest bytes
+    → LineFront (cond x n rest) bytes
+first bytes word n rest true e size each other = front_of_word word bytes n size each e
+first bytes word n rest false e size each other = other
+
 header_front : (bytes : List ℕ) → LineFront (header_length bytes) bytes
 header_front bytes =
-    first (starts_with nat_eq bytes (codes "<threads.h>")) refl
-    (first (starts_with nat_eq bytes (codes "<stdatomic.h>")) refl
-    (first (starts_with nat_eq bytes (codes "<stdint.h>")) refl
-    (first (starts_with nat_eq bytes (codes "<stdbool.h>")) refl (first (starts_with nat_eq bytes (codes "<stddef.h>")) refl (no_front bytes) h5) h4) h3) h2)
-    h1
-  where
-    first : {rest : ℕ} {n : ℕ} {word : List ℕ} (x : Bool) → starts_with nat_eq bytes word ≡ x → LineFront rest bytes
-        → (starts_with nat_eq bytes word ≡ true → LineFront n bytes) → LineFront (cond x n rest) bytes
-    first true e other f = f e
-    first false e other f = other
-    h1 : starts_with nat_eq bytes (codes "<threads.h>") ≡ true → LineFront 11 bytes
-    h1 e = front_of_word (codes "<threads.h>") bytes 11 refl (refl, refl, refl, refl, refl, refl, refl, refl, refl, refl, refl, tt) e
-    h2 : starts_with nat_eq bytes (codes "<stdatomic.h>") ≡ true → LineFront 13 bytes
-    h2 e = front_of_word (codes "<stdatomic.h>") bytes 13 refl (refl, refl, refl, refl, refl, refl, refl, refl, refl, refl, refl, refl, refl, tt) e
-    h3 : starts_with nat_eq bytes (codes "<stdint.h>") ≡ true → LineFront 10 bytes
-    h3 e = front_of_word (codes "<stdint.h>") bytes 10 refl (refl, refl, refl, refl, refl, refl, refl, refl, refl, refl, tt) e
-    h4 : starts_with nat_eq bytes (codes "<stdbool.h>") ≡ true → LineFront 11 bytes
-    h4 e = front_of_word (codes "<stdbool.h>") bytes 11 refl (refl, refl, refl, refl, refl, refl, refl, refl, refl, refl, refl, tt) e
-    h5 : starts_with nat_eq bytes (codes "<stddef.h>") ≡ true → LineFront 10 bytes
-    h5 e = front_of_word (codes "<stddef.h>") bytes 10 refl (refl, refl, refl, refl, refl, refl, refl, refl, refl, refl, tt) e
+    first bytes (codes "<threads.h>") 11 _ _ refl refl (refl, (refl, (refl, (refl, (refl, (refl, (refl, (refl, (refl, (refl, (refl, tt)))))))))))
+    (first bytes (codes "<stdatomic.h>") 13 _ _ refl refl (refl, (refl, (refl, (refl, (refl, (refl, (refl, (refl, (refl, (refl, (refl, (refl, (refl, tt)))))))))))))
+    (first bytes (codes "<stdint.h>") 10 _ _ refl refl (refl, (refl, (refl, (refl, (refl, (refl, (refl, (refl, (refl, (refl, tt))))))))))
+    (first bytes (codes "<stdbool.h>") 11 _ _ refl refl (refl, (refl, (refl, (refl, (refl, (refl, (refl, (refl, (refl, (refl, (refl, tt)))))))))))
+    (first bytes (codes "<stddef.h>") 10 0 _ refl refl (refl, (refl, (refl, (refl, (refl, (refl, (refl, (refl, (refl, (refl, tt)))))))))) (no_front bytes)))))
 
 include_front : (bytes : List ℕ) → LineFront (include_length bytes) bytes
 include_front bytes = here (starts_with nat_eq bytes (codes "include")) refl (header_length (without_gap (drop 7 bytes)) == 0)
@@ -125,7 +115,7 @@ include_front bytes = here (starts_with nat_eq bytes (codes "include")) refl (he
     gap = prefix_len is_gap (drop 7 bytes)
     all : starts_with nat_eq bytes (codes "include") ≡ true → LineFront (7 + gap + header_length (without_gap (drop 7 bytes))) bytes
     all e =
-        let word = front_of_word (codes "include") bytes 7 refl (refl, refl, refl, refl, refl, refl, refl, tt) e in
+        let word = front_of_word (codes "include") bytes 7 refl (refl, (refl, (refl, (refl, (refl, (refl, (refl, tt))))))) e in
         let blanks = front_and 7 gap bytes word (front_of_all is_gap (drop 7 bytes) gap_in_line) in
         let behind : drop gap (drop 7 bytes) ≡ drop (7 + gap) bytes = drop-drop gap 7 bytes in
         front_and (7 + gap) (header_length (without_gap (drop 7 bytes))) bytes blanks
@@ -240,6 +230,11 @@ hash_gone bs = here (is_line_mark bs) (include_end bs == 0)
     here false true = tt
     here false false = hash_front (include_end bs) bs (include_line bs)
 
+marked : (f z : Bool) (b : ℕ) (bs : List ℕ) → (b == 35) ≡ true → GoneOf (cond f (hash_piece bs) (cond z (Cut Punctuator (punctuator_length (b ∷ bs))) (Faulty ForeignByte))) (b ∷ bs)
+marked true z b bs is = subst (λ (n : ℕ). GoneOf (hash_piece bs) (n ∷ bs)) (sym (eqb-true b 35 is)) (hash_gone bs)
+marked false true b bs is = tt
+marked false false b bs is = tt
+
 other_gone : (fresh : Bool) (b : ℕ) (bs : List ℕ) → GoneOf (other_piece fresh b bs) (b ∷ bs)
 other_gone fresh b bs = here (b == 47) (b == 34) (b == 39) (b == 35) (is_punctuator b) refl refl
   where
@@ -248,14 +243,10 @@ other_gone fresh b bs = here (b == 47) (b == 34) (b == 39) (b == 35) (is_punctua
         (cond w (string_piece (quote_end 34 0 34 bs))
         (cond x (character_piece (b ∷ bs) (quote_end 39 0 39 bs))
         (cond (y && fresh) (hash_piece bs) (cond z (Cut Punctuator (punctuator_length (b ∷ bs))) (Faulty ForeignByte)))))) (b ∷ bs)
-    marked : (f z : Bool) → (b == 35) ≡ true → GoneOf (cond f (hash_piece bs) (cond z (Cut Punctuator (punctuator_length (b ∷ bs))) (Faulty ForeignByte))) (b ∷ bs)
-    marked true z is = subst (λ (n : ℕ). GoneOf (hash_piece bs) (n ∷ bs)) (sym (eqb-true b 35 is)) (hash_gone bs)
-    marked false true is = tt
-    marked false false is = tt
     here true w x y z is_v is_y = subst (λ (n : ℕ). GoneOf (slash_piece bs) (n ∷ bs)) (sym (eqb-true b 47 is_v)) (slash_gone bs)
     here false true x y z is_v is_y = string_gone (quote_end 34 0 34 bs) (b ∷ bs)
     here false false true y z is_v is_y = character_gone (b ∷ bs) (quote_end 39 0 39 bs)
-    here false false false true z is_v is_y = marked fresh z is_y
+    here false false false true z is_v is_y = marked fresh z b bs is_y
     here false false false false true is_v is_y = tt
     here false false false false false is_v is_y = tt
 
@@ -335,13 +326,16 @@ piece_within (Passed size) b bs gone cut = gone.within
 piece_within (Cut kind size) b bs gone cut = cut.within
 piece_within (Faulty fault) b bs gone cut = omega arith
 
-nothing_left : (inside : ℕ) → drop inside ([] {A = ℕ}) ≡ []
+abbrev no_bytes : List ℕ
+no_bytes = []
+
+nothing_left : (inside : ℕ) → no_bytes ≡ drop inside no_bytes
 nothing_left zero = refl
 nothing_left (suc n) = refl
 
 laid_from : (inside : ℕ) (fresh : Bool) (start : ℕ) (place : Place) (text : List ℕ) → inside ≤ length text → (lexed_from inside fresh start place text).fault ≡ None
     → Laid (start + inside) (drop inside text) (lexed_from inside fresh start place text).tokens
-laid_from inside fresh start place [] within none = record { parts = []; each = tt; whole = sym (nothing_left inside); tokens_are = refl }
+laid_from inside fresh start place [] within none = record { parts = []; each = tt; whole = nothing_left inside; tokens_are = refl }
 laid_from (suc inside) fresh start place (b ∷ bs) within none =
     let same : start + 1 + inside ≡ start + suc inside = omega arith in
     subst (λ (n : ℕ). Laid n (drop inside bs) (lexed_from inside fresh (start + 1) (next_place place b) bs).tokens) same

@@ -6,3 +6,5 @@ mod Beginnings
 mod Longest
 mod Cuts
 mod Laying
+mod Typedefs
+mod Classed

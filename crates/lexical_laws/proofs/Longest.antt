@@ -21,8 +21,9 @@ use Rattle.c_lexer.specs.Literals.{number_literal, character_literal, escape_val
 use Rattle.c_lexer.specs.Numbers.{begins_number, begins_hexadecimal, goes_on_number, number_rest}
 use Rattle.c_lexer.specs.Pieces.{piece_at, number_piece, character_length, no_character, character_piece, string_piece, comment_piece, slash_piece, hash_piece, other_piece}
 use Rattle.c_lexer.specs.Punctuators.{is_punctuator, threes, pairs, begins_with_any, punctuator_length}
+use Rattle.lexical_laws.specs.Classes.{kind_at}
 use Rattle.lexical_laws.specs.Lexemes.{is_number, IsConstant, IsString, IsPunctuator, IsLexeme, IsToken, IsLongest, LongestTokenIsCut}
-use Rattle.lexical_laws.proofs.Beginnings.{kind_at, number_kind, punctuator_kind, same_kind}
+use Rattle.lexical_laws.proofs.Beginnings.{number_kind, punctuator_kind, same_kind}
 
 -- no longer front is a token where none is one of the text's kind
 pub longest_of_kind : (text : List ℕ) (kind : LexemeKind) (size : ℕ) → kind_at text ≡ Some kind → 0 < size

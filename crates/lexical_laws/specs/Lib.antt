@@ -1,5 +1,6 @@
 pub mod Places
 pub mod Comments
+pub mod Classes
 pub mod Lexemes
 pub mod Parts
 pub mod Keywords
