@@ -1,12 +1,11 @@
 -- Which kind of token a text may begin with.
-use Rattle.std.proofs.Common.{◌≡◌, ◌⊎◌, inl, inr, ◌<◌, ◌≤◌, ◌==◌, ℕ, ◌+◌, suc, zero, Bool, true, false, cond, not, ◌&&◌, ◌||◌, nat_le, nat_eq, List, [], ◌∷◌, length, take, All, Option, Some, None, is_some, refl, sym, ap, ◌∙◌, subst, codes, arith}
-use Rattle.std.specs.Prelude.{Contains}
+use Rattle.std.proofs.Common.{◌≡◌, inl, inr, ◌<◌, ◌≤◌, ◌==◌, ℕ, suc, zero, Bool, true, false, cond, not, ◌&&◌, ◌||◌, nat_le, nat_eq, List, [], ◌∷◌, take, Option, Some, None, is_some, refl, sym, ◌∙◌, subst, codes, arith}
 use Rattle.std.specs.List.{list_all, list_any, AllByRecursion}
-use Rattle.std.proofs.lemmas.Bool.{true≢false, eqb-true, leb-true, leb-false}
+use Rattle.std.proofs.lemmas.Bool.{true≢false, eqb-true, leb-true}
 use Rattle.std.proofs.lemmas.List.Elements.{All-contains, All-from_recursion}
 use Rattle.c_lexer.specs.declared.piece.LexemeKind.{LexemeKind}
 use Rattle.c_lexer.specs.declared.piece.LexemeKind.TheVariants.{Word, Number, Character, String, Punctuator}
-use Rattle.c_lexer.specs.Bytes.{is_letter, is_digit, is_word_byte}
+use Rattle.c_lexer.specs.Bytes.{is_letter, is_digit}
 use Rattle.c_lexer.specs.Identifiers.{is_word}
 use Rattle.c_lexer.specs.Literals.{character_literal, escape_value, is_plain}
 use Rattle.c_lexer.specs.Numbers.{begins_digit, begins_number}

@@ -1,8 +1,8 @@
 -- Without `typedef` the class of a token is that of its bytes.
-use Rattle.std.proofs.Common.{◌≡◌, ℕ, ◌+◌, ◌-◌, ◌==◌, suc, zero, Bool, true, false, cond, ◌&&◌, ◌||◌, List, [], ◌∷◌, map, take, drop, codes, Option, None, Some, refl, sym, ap, ◌∙◌, subst, drop-drop, arith}
+use Rattle.std.proofs.Common.{◌≡◌, ℕ, ◌+◌, ◌-◌, ◌==◌, suc, zero, Bool, true, false, cond, ◌&&◌, List, [], ◌∷◌, map, take, drop, codes, Option, None, Some, refl, sym, ap, ◌∙◌, subst, drop-drop}
 use Rattle.std.specs.List.{list_any}
 use Rattle.std.specs.Str.{bytes_eq}
-use Rattle.std.proofs.lemmas.Bool.{true≢false, eqb-true, or_parts}
+use Rattle.std.proofs.lemmas.Bool.{true≢false, or_parts}
 use Rattle.misra_base.specs.declared.place.Place.{Place}
 use Rattle.c_lexer.specs.declared.token.Token.{Token}
 use Rattle.c_lexer.specs.declared.piece.LexemeKind.{LexemeKind}
@@ -14,9 +14,8 @@ use Rattle.c_lexer.specs.Positions.{first_place, next_place}
 use Rattle.c_lexer.specs.Slices.{token_text}
 use Rattle.c_lexer.specs.TokenClasses.{class_number}
 use Rattle.c_lexer.specs.Tokens.{Lexed, class_of_lexeme, with_piece, lexed_from, lexed_of, tokens_of}
-use Rattle.c_lexer.specs.TypedefNames.{has_class, is_name, classed, stretch_behind, names_behind, named_from, outside, with_typedef_names}
+use Rattle.c_lexer.specs.TypedefNames.{has_class, classed, stretch_behind, names_behind, named_from, outside, with_typedef_names}
 use Rattle.lexical_laws.specs.Classes.{kind_at, class_at, class_of_word, words_in, ClassesAreOfWords}
-use Rattle.lexical_laws.specs.Lexemes.{IsLexeme}
 use Rattle.lexical_laws.proofs.Beginnings.{kind_of}
 use Rattle.lexical_laws.proofs.Cuts.{all_cut}
 use Rattle.lexical_laws.proofs.Longest.{CutOf}
@@ -89,6 +88,7 @@ head_class text token tokens h = (ap first h, ap rest h)
     first : List ℕ → ℕ
     first [] = 0
     first (n ∷ ns) = n
+
     rest : List ℕ → List ℕ
     rest [] = []
     rest (n ∷ ns) = ns

@@ -1,15 +1,13 @@
 -- Where a comment ends.
-use Rattle.std.proofs.Common.{◌≡◌, ◌<◌, ◌≤◌, ◌==◌, ℕ, ◌+◌, suc, Bool, true, false, cond, ◌&&◌, List, [], ◌∷◌, ◌++◌, length, take, All, Option, Some, None, refl, sym, ap, ◌∙◌, subst, codes, append_assoc, arith}
+use Rattle.std.proofs.Common.{◌≡◌, ◌==◌, ℕ, ◌+◌, suc, Bool, true, false, cond, ◌&&◌, List, [], ◌∷◌, ◌++◌, length, Option, Some, None, refl, sym, ap, ◌∙◌, subst, codes, append_assoc, arith}
 use Rattle.std.specs.List.{prefix_len, AllByRecursion}
 use Rattle.std.proofs.lemmas.Bool.{eqb-true, true≢false}
 use Rattle.std.proofs.lemmas.List.Elements.{recursion_from_All}
-use Rattle.c_lexer.specs.declared.piece.Fault.TheVariants.{NotClosed}
-use Rattle.c_lexer.specs.declared.piece.Piece.{Piece}
-use Rattle.c_lexer.specs.declared.piece.Piece.TheVariants.{Passed, Faulty}
+use Rattle.c_lexer.specs.declared.piece.Piece.TheVariants.{Passed}
 use Rattle.c_lexer.specs.Bytes.{is_in_line}
 use Rattle.c_lexer.specs.Lines.{comment_end}
 use Rattle.c_lexer.specs.Pieces.{piece_at, comment_piece}
-use Rattle.lexical_laws.specs.Comments.{HasClose, IsBlockComment, IsInLine, IsLineComment, EndsLine, BlockCommentIsPassed, LineCommentIsPassed, OpenCommentIsFaulty}
+use Rattle.lexical_laws.specs.Comments.{HasClose, EndsLine, BlockCommentIsPassed, LineCommentIsPassed, OpenCommentIsFaulty}
 
 -- `*/` ends at one of these bytes, behind the byte before them
 abbrev pub closes : ℕ → List ℕ → Bool
@@ -114,6 +112,7 @@ first_close b (c ∷ cs) e = here (b == 42) (c == 47) refl refl e (first_close c
           unclosed = one_more b c cs later.body later.rest differ later.unclosed later.whole;
           whole = ap (λ (xs : List ℕ). b ∷ xs) later.whole;
         }
+
     here : (x y : Bool) → (b == 42) ≡ x → (c == 47) ≡ y → cond (x && y) true (closes c cs) ≡ true → (closes c cs ≡ true → Closed (c ∷ cs)) → Closed (b ∷ c ∷ cs)
     here true true is_x is_y h later =
         record {
@@ -147,8 +146,10 @@ comment_in bs more closed e =
     still : (body : List ℕ) → closes_in body ≡ false → closes 0 body ≡ false
     still [] h = refl
     still (x ∷ xs) h = h
+
     inner : (m : ℕ) → Some more ≡ Some m → more ≡ m
     inner m h = cc
+
     some_same : (m : ℕ) → Some more ≡ Some (0 + m) → more ≡ m
     some_same m h = omega (arith, inner (0 + m) h)
 
@@ -164,6 +165,7 @@ comment_of (b ∷ bs) more e = here (closes b bs) refl
       where
         both : None ≡ Some more → ⊥
         both same = cc
+
     here : (x : Bool) → closes b bs ≡ x → Comment (b ∷ bs) more
     here true h = comment_in (b ∷ bs) more (first_close b bs h) e
     here false h = none (never_ends 0 0 (b ∷ bs) h)
@@ -183,6 +185,7 @@ block_passed fresh comment rest is =
   where
     sizes : (n : ℕ) → 0 + (n + 2) + 2 ≡ n + 4
     sizes n = omega arith
+
     size : (body : List ℕ) → length (codes "/*" ++ body ++ codes "*/") ≡ length body + 4
     size body = omega (arith, behind body)
       where

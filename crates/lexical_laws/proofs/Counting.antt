@@ -1,5 +1,5 @@
 -- What an integer literal counts.
-use Rattle.std.proofs.Common.{◌≡◌, ◌≢◌, ◌⊎◌, inl, inr, ◌<◌, ◌≤◌, ◌==◌, ◌+◌, ◌*◌, ◌^◌, ℕ, suc, zero, Bool, true, false, cond, ◌&&◌, ◌||◌, List, [], ◌∷◌, ◌++◌, length, take, drop, All, Option, Some, None, is_some, refl, sym, ap, ◌∙◌, subst, codes, option_map, option_and_then, add-mul, mul_assoc, mul_comm, arith}
+use Rattle.std.proofs.Common.{◌≡◌, ◌⊎◌, inl, inr, ◌<◌, ◌≤◌, ◌==◌, ◌+◌, ◌*◌, ◌^◌, ℕ, suc, zero, Bool, true, false, cond, ◌&&◌, ◌||◌, List, [], ◌∷◌, ◌++◌, length, take, drop, All, Option, Some, None, is_some, refl, sym, ap, ◌∙◌, subst, codes, option_map, option_and_then, add-mul, mul_assoc, mul_comm, arith}
 use Rattle.std.specs.List.{prefix_len, AllByRecursion}
 use Rattle.std.proofs.lemmas.Bool.{eqb-true, eqb-false, ltb-true, true≢false}
 use Rattle.std.proofs.lemmas.List.{take-append-drop, length-take-le}
@@ -9,7 +9,7 @@ use Rattle.std.proofs.lemmas.List.Sums.{prefix_len-le-length}
 use Rattle.c_lexer.specs.declared.integer.IntegerType.{IntegerType}
 use Rattle.c_lexer.specs.declared.integer.IntegerLiteral.{IntegerLiteral}
 use Rattle.c_lexer.specs.Numbers.{begins_hexadecimal}
-use Rattle.c_lexer.specs.Integers.{digit_value, is_digit_of, place_value, suffix_of, types_of, first_type, begins_zero, base_of, body_of, typed, literal_of, integer_literal}
+use Rattle.c_lexer.specs.Integers.{digit_value, is_digit_of, place_value, suffix_of, types_of, first_type, begins_zero, typed, literal_of, integer_literal}
 use Rattle.lexical_laws.specs.Values.{IsBase, IsWritten, LiteralIsItsDigits, FirstDigitCountsMost}
 
 -- ---- the first digit
@@ -46,6 +46,7 @@ digits_pass base (b ∷ bs) = here (is_digit_of base b) refl (digits_pass base b
   where
     one : suc (prefix_len (is_digit_of base) bs) ≡ 1 + prefix_len (is_digit_of base) bs
     one = omega arith
+
     here : (x : Bool) → is_digit_of base b ≡ x → AllByRecursion (λ b. digit_value b < base) (take (prefix_len (is_digit_of base) bs) bs)
         → AllByRecursion (λ b. digit_value b < base) (take (cond x (1 + prefix_len (is_digit_of base) bs) 0) (b ∷ bs))
     here true e later = subst (λ (n : ℕ). AllByRecursion (λ b. digit_value b < base) (take n (b ∷ bs))) one (ltb-true (digit_value b) base e, later)
@@ -89,6 +90,7 @@ in_body base n body literal within each e = here (n == 0) refl e
   where
     value : ℕ
     value = place_value base (take n body)
+
     here : (x : Bool) → (n == 0) ≡ x → cond x None (option_and_then (λ s. typed value (base == 10) s) (suffix_of (drop n body))) ≡ Some literal → InBody base body literal
     here true is h = absurd (none h)
       where

@@ -1,26 +1,25 @@
 -- Characters, strings and punctuators are the longest tokens, and so is all that is cut.
-use Rattle.std.proofs.Common.{◌≡◌, ◌⊎◌, inl, inr, ◌<◌, ◌≤◌, ◌==◌, ℕ, ◌+◌, ◌-◌, suc, zero, Bool, true, false, cond, not, ◌&&◌, ◌||◌, nat_eq, List, [], ◌∷◌, ◌++◌, length, take, drop, All, Option, Some, None, is_some, refl, sym, ap, ◌∙◌, subst, codes, length-append, arith}
+use Rattle.std.proofs.Common.{◌≡◌, ◌⊎◌, inl, inr, ◌<◌, ◌≤◌, ◌==◌, ℕ, ◌+◌, suc, zero, Bool, true, false, cond, not, ◌&&◌, ◌||◌, nat_eq, List, [], ◌∷◌, ◌++◌, length, take, drop, Option, Some, None, is_some, refl, sym, ap, ◌∙◌, subst, length-append, arith}
 use Rattle.std.specs.Prelude.{Contains}
-use Rattle.std.specs.List.{list_any, prefix_len, starts_with, AllByRecursion}
+use Rattle.std.specs.List.{prefix_len, starts_with, AllByRecursion}
 use Rattle.std.proofs.lemmas.Bool.{true≢false, eqb-true}
 use Rattle.std.proofs.lemmas.Bool.Decides.{Decides-eqb}
 use Rattle.std.proofs.lemmas.List.{length-take-le, take-append-drop}
 use Rattle.std.proofs.lemmas.List.Elements.{All-contains, All-from_recursion}
 use Rattle.std.proofs.lemmas.Slice.Eq.{starts_is}
 use Rattle.std.proofs.Math.Seq.{take-append_seam}
-use Rattle.c_lexer.specs.declared.piece.LexemeKind.{LexemeKind}
-use Rattle.c_lexer.specs.declared.piece.LexemeKind.TheVariants.{Word, Number, Character, String, Punctuator}
-use Rattle.c_lexer.specs.declared.piece.Fault.TheVariants.{ForeignByte, NoLiteral, OtherLine}
+use Rattle.c_lexer.specs.declared.piece.LexemeKind.TheVariants.{Word, Character, String, Punctuator}
+use Rattle.c_lexer.specs.declared.piece.Fault.TheVariants.{ForeignByte, OtherLine}
 use Rattle.c_lexer.specs.declared.piece.Piece.{Piece}
 use Rattle.c_lexer.specs.declared.piece.Piece.TheVariants.{Passed, Token as Cut, Faulty}
 use Rattle.c_lexer.specs.Bytes.{is_blank, is_letter, is_word_byte, is_in_line}
 use Rattle.c_lexer.specs.Lines.{comment_end, quote_end, is_line_mark, include_end}
 use Rattle.c_lexer.specs.Literals.{character_literal, escape_value, is_plain}
 use Rattle.c_lexer.specs.Numbers.{begins_number, begins_hexadecimal, number_rest}
-use Rattle.c_lexer.specs.Pieces.{piece_at, number_piece, character_length, no_character, character_piece, string_piece, comment_piece, slash_piece, hash_piece, other_piece}
+use Rattle.c_lexer.specs.Pieces.{piece_at, number_piece, no_character, character_piece, string_piece, comment_piece, slash_piece, hash_piece, other_piece}
 use Rattle.c_lexer.specs.Punctuators.{is_punctuator, threes, pairs, begins_with_any, punctuator_length}
 use Rattle.lexical_laws.specs.Classes.{kind_at}
-use Rattle.lexical_laws.specs.Lexemes.{IsString, IsPunctuator, IsLexeme, IsLongest, LongestTokenIsCut}
+use Rattle.lexical_laws.specs.Lexemes.{IsPunctuator, IsLexeme, IsLongest, LongestTokenIsCut}
 use Rattle.lexical_laws.proofs.Beginnings.{punctuator_kind}
 use Rattle.lexical_laws.proofs.Longest.{CutOf, longest_of_kind, word_cut, number_cut}
 
@@ -49,6 +48,7 @@ not_both a b c d plain escape = here (a == 39) (c == 39) (is_plain b) (b == 92) 
   where
     slash : is_plain 92 ≡ false
     slash = refl
+
     here : (x y z w : Bool) → is_plain b ≡ z → (b == 92) ≡ w → is_some (cond (x && y && z) (Some b) None) ≡ true
         → is_some (cond (x && w && d == 39) (escape_value c) None) ≡ true → ⊥
     here true true true true is_z is_w h k = true≢false (sym is_z ∙ ap (λ (n : ℕ). is_plain n) (eqb-true b 92 is_w) ∙ slash)
@@ -143,14 +143,17 @@ string_cut bs (Some n) e = subst (λ (m : ℕ). IsLongest String m (34 ∷ bs)) 
   where
     one : suc n ≡ n + 1
     one = omega arith
+
     within : n ≤ length bs
     within = omega (arith, (quote_above 34 0 34 bs n e).1)
+
     none : (longer : ℕ) → suc n < longer → longer ≤ length (34 ∷ bs) → ¬ (IsLexeme String (take longer (34 ∷ bs)))
     none zero more inside is = omega (arith, more)
     none (suc m) more inside is =
         let size : length (take m bs) ≡ m = length-take-le m bs (omega (arith, inside)) in
         let same : n ≡ length (take m bs) = some_one n (length (take m bs)) (sym (quote_taken 34 0 34 bs n m e (omega (arith, more))) ∙ is.1) in
         omega (arith, more, same, size)
+
     cut : IsLongest String (suc n) (34 ∷ bs)
     cut = record {
       some = omega arith;
@@ -191,9 +194,10 @@ pub record Front (n : ℕ) (words : List (List ℕ)) (text : List ℕ) : Type 0 
 
 front_of : (n : ℕ) (word text : List ℕ) → length word ≡ n → starts_with nat_eq text word ≡ true → (take n text ≡ word) × (n ≤ length text)
 front_of n word text size e =
-    let split : text ≡ word ++ drop (length word) text = is_front word text e in
-    (ap (λ (k : ℕ). take k text) (sym size) ∙ ap (λ (t : List ℕ). take (length word) t) split ∙ take-append_seam word (drop (length word) text),
-     omega (arith, size, length-append word (drop (length word) text), ap (λ (t : List ℕ). length t) split))
+    let split : text ≡ word ++ drop (length word) text = is_front word text e in (
+      ap (λ (k : ℕ). take k text) (sym size) ∙ ap (λ (t : List ℕ). take (length word) t) split ∙ take-append_seam word (drop (length word) text),
+      omega (arith, size, length-append word (drop (length word) text), ap (λ (t : List ℕ). length t) split),
+    )
 
 front_among : (n : ℕ) (words : List (List ℕ)) (text : List ℕ) → AllByRecursion (λ w. length w ≡ n) words → begins_with_any words text ≡ true → Front n words text
 front_among n [] text sizes e = absurd (true≢false (sym e))
@@ -229,6 +233,7 @@ punctuator_cut b bs e other = here (begins_with_any threes (b ∷ bs)) (begins_w
   where
     kind : kind_at (b ∷ bs) ≡ Some Punctuator
     kind = punctuator_kind b bs e other
+
     here : (x y : Bool) → begins_with_any threes (b ∷ bs) ≡ x → begins_with_any pairs (b ∷ bs) ≡ y → IsLongest Punctuator (cond x 3 (cond y 2 1)) (b ∷ bs)
     here true y is_x is_y =
         let front = front_among 3 threes (b ∷ bs) threes_long is_x in
@@ -238,6 +243,7 @@ punctuator_cut b bs e other = here (begins_with_any threes (b ∷ bs)) (begins_w
         by_size longer more (inl is) = omega (arith, more, is.1)
         by_size longer more (inr (inl is)) = omega (arith, more, is.1)
         by_size longer more (inr (inr is)) = omega (arith, more, is)
+
         none : (longer : ℕ) → 3 < longer → longer ≤ length (b ∷ bs) → ¬ (IsPunctuator (take longer (b ∷ bs)))
         none longer more within is = by_size longer more (mark_size (b ∷ bs) longer within is)
     here false true is_x is_y =
@@ -248,6 +254,7 @@ punctuator_cut b bs e other = here (begins_with_any threes (b ∷ bs)) (begins_w
         by_size longer more (inl is) = not_among (b ∷ bs) threes longer is_x is.0
         by_size longer more (inr (inl is)) = omega (arith, more, is.1)
         by_size longer more (inr (inr is)) = omega (arith, more, is)
+
         none : (longer : ℕ) → 2 < longer → longer ≤ length (b ∷ bs) → ¬ (IsPunctuator (take longer (b ∷ bs)))
         none longer more within is = by_size longer more (mark_size (b ∷ bs) longer within is)
     here false false is_x is_y =
@@ -257,6 +264,7 @@ punctuator_cut b bs e other = here (begins_with_any threes (b ∷ bs)) (begins_w
         by_size longer more (inl is) = not_among (b ∷ bs) threes longer is_x is.0
         by_size longer more (inr (inl is)) = not_among (b ∷ bs) pairs longer is_y is.0
         by_size longer more (inr (inr is)) = omega (arith, more, is)
+
         none : (longer : ℕ) → 1 < longer → longer ≤ length (b ∷ bs) → ¬ (IsPunctuator (take longer (b ∷ bs)))
         none longer more within is = by_size longer more (mark_size (b ∷ bs) longer within is)
 

@@ -1,5 +1,5 @@
 -- The parts of a text end to end are the text.
-use Rattle.std.proofs.Common.{◌≡◌, ◌⊎◌, inl, inr, ◌<◌, ◌≤◌, ◌==◌, ℕ, ◌+◌, ◌-◌, suc, zero, Bool, true, false, cond, not, ◌&&◌, ◌||◌, nat_eq, nat_lt, List, [], ◌∷◌, ◌++◌, map, flat_map, length, take, drop, All, Option, Some, None, slice_get, refl, sym, ap, ◌∙◌, subst, codes, length-append, drop-drop, take-add, arith}
+use Rattle.std.proofs.Common.{◌≡◌, inl, inr, ◌<◌, ◌≤◌, ◌==◌, ℕ, ◌+◌, ◌-◌, suc, zero, Bool, true, false, cond, not, ◌&&◌, ◌||◌, nat_eq, nat_lt, List, [], ◌∷◌, ◌++◌, map, flat_map, length, take, drop, Option, Some, None, slice_get, refl, sym, ap, ◌∙◌, subst, codes, length-append, drop-drop, take-add, arith}
 use Rattle.std.specs.List.{prefix_len, starts_with, AllByRecursion}
 use Rattle.std.proofs.lemmas.Bool.{true≢false, eqb-true}
 use Rattle.std.proofs.lemmas.Bool.Decides.{Decides-eqb}
@@ -12,7 +12,7 @@ use Rattle.misra_base.specs.declared.place.Place.{Place}
 use Rattle.misra_base.specs.declared.refusal.Refusal.{Refusal}
 use Rattle.c_lexer.specs.declared.token.Token.{Token}
 use Rattle.c_lexer.specs.declared.piece.LexemeKind.{LexemeKind}
-use Rattle.c_lexer.specs.declared.piece.LexemeKind.TheVariants.{Word, Number, Character, String, Punctuator}
+use Rattle.c_lexer.specs.declared.piece.LexemeKind.TheVariants.{Word, Number, Character, Punctuator}
 use Rattle.c_lexer.specs.declared.piece.Fault.TheVariants.{ForeignByte, NoLiteral, OtherLine}
 use Rattle.c_lexer.specs.declared.piece.Piece.{Piece}
 use Rattle.c_lexer.specs.declared.piece.Piece.TheVariants.{Passed, Token as Cut, Faulty}
@@ -23,15 +23,14 @@ use Rattle.c_lexer.specs.Numbers.{begins_number, begins_hexadecimal, number_rest
 use Rattle.c_lexer.specs.Pieces.{piece_at, size_of, fresh_behind, number_piece, character_length, no_character, character_piece, string_piece, comment_piece, slash_piece, hash_piece, other_piece}
 use Rattle.c_lexer.specs.Positions.{first_place, next_place}
 use Rattle.c_lexer.specs.Punctuators.{is_punctuator, punctuator_length}
-use Rattle.c_lexer.specs.Slices.{token_text}
 use Rattle.c_lexer.specs.TokenClasses.{class_number}
 use Rattle.c_lexer.specs.Tokens.{Lexed, with_piece, lexed_from, lexed_of, tokens_of}
 use Rattle.c_lexer.specs.TypedefNames.{classed, stretch_behind, names_behind, named_from, outside, with_typedef_names}
 use Rattle.c_lexer.specs.declared.token_class.TokenClass.TheVariants.{TypedefName}
 use Rattle.c_lexer.specs.declared.typedef_name.Stretch.{Stretch}
-use Rattle.lexical_laws.specs.Comments.{IsBlockComment, IsLineComment, IsInLine}
+use Rattle.lexical_laws.specs.Comments.{IsInLine}
 use Rattle.lexical_laws.specs.Lexemes.{IsLongest}
-use Rattle.lexical_laws.specs.Parts.{Part, Lexeme, Between, bytes_of, IsBlank, IsHashLine, IsPart, spans, span_of, IsLaidOut, TextIsItsParts}
+use Rattle.lexical_laws.specs.Parts.{Part, Lexeme, Between, bytes_of, IsPart, spans, span_of, TextIsItsParts}
 use Rattle.lexical_laws.proofs.Closing.{Comment, comment_of, no_close}
 use Rattle.lexical_laws.proofs.Cuts.{all_cut}
 use Rattle.lexical_laws.proofs.Longest.{CutOf}
@@ -75,6 +74,7 @@ passing p (b ∷ bs) f = here (p b) refl (passing p bs f)
   where
     one : suc (prefix_len p bs) ≡ 1 + prefix_len p bs
     one = omega arith
+
     here : (x : Bool) → p b ≡ x → AllInLine (take (prefix_len p bs) bs) → AllInLine (take (cond x (1 + prefix_len p bs) 0) (b ∷ bs))
     here true e later = subst (λ (n : ℕ). AllInLine (take n (b ∷ bs))) one (f b e, later)
     here false e later = tt
@@ -113,6 +113,7 @@ include_front bytes = here (starts_with nat_eq bytes (codes "include")) refl (he
   where
     gap : ℕ
     gap = prefix_len is_gap (drop 7 bytes)
+
     all : starts_with nat_eq bytes (codes "include") ≡ true → LineFront (7 + gap + header_length (without_gap (drop 7 bytes))) bytes
     all e =
         let word = front_of_word (codes "include") bytes 7 refl (refl, (refl, (refl, (refl, (refl, (refl, (refl, tt))))))) e in
@@ -120,6 +121,7 @@ include_front bytes = here (starts_with nat_eq bytes (codes "include")) refl (he
         let behind : drop gap (drop 7 bytes) ≡ drop (7 + gap) bytes = drop-drop gap 7 bytes in
         front_and (7 + gap) (header_length (without_gap (drop 7 bytes))) bytes blanks
         (subst (λ (xs : List ℕ). LineFront (header_length (without_gap (drop 7 bytes))) xs) behind (header_front (without_gap (drop 7 bytes))))
+
     here : (x : Bool) → starts_with nat_eq bytes (codes "include") ≡ x → (y : Bool) → LineFront (cond (x && not y) (7 + gap + header_length (without_gap (drop 7 bytes))) 0) bytes
     here true e false = all e
     here true e true = no_front bytes
@@ -182,9 +184,11 @@ comment_gone bs (Some more) e = gone (comment_of bs more e)
         parted : (body rest : List ℕ) → body ++ 42 ∷ 47 ∷ rest ≡ (body ++ 42 ∷ 47 ∷ []) ++ rest
         parted [] rest = refl
         parted (x ∷ xs) rest = ap (λ (ys : List ℕ). x ∷ ys) (parted xs rest)
+
         behind : (xs : List ℕ) → length (xs ++ 42 ∷ 47 ∷ []) ≡ length xs + 2
         behind [] = refl
         behind (x ∷ xs) = omega (arith, behind xs)
+
         long : (body : List ℕ) → length (codes "/*" ++ body ++ codes "*/") ≡ length body + 4
         long body = omega (arith, behind body)
 
@@ -389,9 +393,11 @@ laid_out text none = laid_from zero true 0 first_place text (omega arith) none
 
 pub its_parts : TextIsItsParts
 its_parts text e =
-    let laid = laid_out text (no_fault text e) in
-    (laid.parts, record {
-      each = All-from_recursion IsPart laid.parts laid.each;
-      whole = laid.whole;
-      tokens = laid.tokens_are ∙ sym (all_spans text);
-    })
+    let laid = laid_out text (no_fault text e) in (
+      laid.parts,
+      record {
+        each = All-from_recursion IsPart laid.parts laid.each;
+        whole = laid.whole;
+        tokens = laid.tokens_are ∙ sym (all_spans text);
+      },
+    )

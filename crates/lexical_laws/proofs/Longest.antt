@@ -1,29 +1,20 @@
 -- What is cut is the longest token.
-use Rattle.std.proofs.Common.{◌≡◌, ◌⊎◌, inl, inr, ◌<◌, ◌≤◌, ◌==◌, ℕ, ◌+◌, ◌-◌, suc, zero, Bool, true, false, cond, not, ◌&&◌, ◌||◌, nat_eq, List, [], ◌∷◌, ◌++◌, length, take, drop, All, Option, Some, None, is_some, refl, sym, ap, ◌∙◌, subst, codes, length-append, arith}
-use Rattle.std.specs.Prelude.{Contains}
-use Rattle.std.specs.List.{list_any, prefix_len, starts_with, AllByRecursion}
+use Rattle.std.proofs.Common.{◌≡◌, ◌<◌, ◌≤◌, ◌==◌, ℕ, ◌+◌, suc, zero, Bool, true, false, cond, ◌&&◌, ◌||◌, List, [], ◌∷◌, length, take, Some, is_some, refl, sym, ap, ◌∙◌, subst, arith}
+use Rattle.std.specs.List.{prefix_len}
 use Rattle.std.proofs.lemmas.Bool.{true≢false, eqb-true}
-use Rattle.std.proofs.lemmas.Bool.Decides.{Decides-eqb}
-use Rattle.std.proofs.lemmas.List.{length-take-le, take-append-drop}
 use Rattle.std.proofs.lemmas.List.Sums.{prefix_len-le-length}
-use Rattle.std.proofs.lemmas.List.Elements.{All-contains, All-from_recursion}
-use Rattle.std.proofs.lemmas.Slice.Eq.{starts_is}
-use Rattle.std.proofs.Math.Seq.{take-append_seam}
 use Rattle.c_lexer.specs.declared.piece.LexemeKind.{LexemeKind}
-use Rattle.c_lexer.specs.declared.piece.LexemeKind.TheVariants.{Word, Number, Character, String, Punctuator}
+use Rattle.c_lexer.specs.declared.piece.LexemeKind.TheVariants.{Word, Number}
 use Rattle.c_lexer.specs.declared.piece.Fault.TheVariants.{NoLiteral}
 use Rattle.c_lexer.specs.declared.piece.Piece.{Piece}
 use Rattle.c_lexer.specs.declared.piece.Piece.TheVariants.{Passed, Token as Cut, Faulty}
-use Rattle.c_lexer.specs.Bytes.{is_blank, is_letter, is_digit, is_word_byte, is_in_line}
-use Rattle.c_lexer.specs.Identifiers.{is_word}
-use Rattle.c_lexer.specs.Lines.{comment_end, quote_end, is_line_mark, include_end}
-use Rattle.c_lexer.specs.Literals.{number_literal, character_literal, escape_value, is_plain}
+use Rattle.c_lexer.specs.Bytes.{is_letter, is_digit, is_word_byte}
+use Rattle.c_lexer.specs.Literals.{number_literal}
 use Rattle.c_lexer.specs.Numbers.{begins_number, begins_hexadecimal, goes_on_number, number_rest}
-use Rattle.c_lexer.specs.Pieces.{piece_at, number_piece, character_length, no_character, character_piece, string_piece, comment_piece, slash_piece, hash_piece, other_piece}
-use Rattle.c_lexer.specs.Punctuators.{is_punctuator, threes, pairs, begins_with_any, punctuator_length}
+use Rattle.c_lexer.specs.Pieces.{number_piece}
 use Rattle.lexical_laws.specs.Classes.{kind_at}
-use Rattle.lexical_laws.specs.Lexemes.{is_number, IsConstant, IsString, IsPunctuator, IsLexeme, IsToken, IsLongest, LongestTokenIsCut}
-use Rattle.lexical_laws.proofs.Beginnings.{number_kind, punctuator_kind, same_kind}
+use Rattle.lexical_laws.specs.Lexemes.{is_number, IsLexeme, IsToken, IsLongest}
+use Rattle.lexical_laws.proofs.Beginnings.{number_kind, same_kind}
 
 -- no longer front is a token where none is one of the text's kind
 pub longest_of_kind : (text : List ℕ) (kind : LexemeKind) (size : ℕ) → kind_at text ≡ Some kind → 0 < size
@@ -164,16 +155,20 @@ number_cut b bs e = subst (λ (n : ℕ). CutOf (number_piece (b ∷ bs) n) (b �
   where
     h : Bool
     h = begins_hexadecimal (b ∷ bs)
+
     n : ℕ
     n = number_rest h b bs
+
     one : suc n ≡ 1 + n
     one = omega arith
+
     none : (longer : ℕ) → suc n < longer → longer ≤ length (b ∷ bs) → ¬ (IsLexeme Number (take longer (b ∷ bs)))
     none zero more within is = omega (arith, more)
     none (suc m) more within is =
         let some : 0 < m = omega (arith, more) in
         let all : number_rest (begins_hexadecimal (b ∷ take m bs)) b (take m bs) ≡ length (take m bs) = eqb-true _ _ (right_true (begins_number (b ∷ take m bs)) _ is.number) in
         omega (arith, more, rest_taken h b m bs (rw (still_begins b m bs some) at all) (omega (arith, within)))
+
     here : (x : Bool) → is_some (number_literal (b ∷ take n bs)) ≡ x → CutOf (cond x (Cut Number (suc n)) (Faulty NoLiteral)) (b ∷ bs)
     here true is =
         record {

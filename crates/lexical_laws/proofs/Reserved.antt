@@ -1,8 +1,7 @@
 -- No keyword is a name.
-use Rattle.std.proofs.Common.{◌≡◌, ◌⊎◌, inl, inr, ◌<◌, ◌+◌, ◌-◌, ◌==◌, ℕ, suc, zero, Bool, true, false, cond, not, ◌&&◌, ◌||◌, nat_lt, List, [], ◌∷◌, length, take, drop, map, codes, refl, sym, ap, ◌∙◌, subst, drop-drop, arith}
-use Rattle.std.specs.Prelude.{Contains, All}
-use Rattle.std.specs.List.{list_all, list_any, AllByRecursion}
-use Rattle.std.specs.Str.{bytes_eq}
+use Rattle.std.proofs.Common.{◌≡◌, ◌⊎◌, inl, inr, ◌+◌, ◌-◌, ℕ, suc, zero, Bool, true, false, cond, not, ◌&&◌, nat_lt, List, [], ◌∷◌, take, drop, refl, sym, ap, ◌∙◌, subst, drop-drop}
+use Rattle.std.specs.Prelude.{Contains}
+use Rattle.std.specs.List.{list_all, AllByRecursion}
 use Rattle.std.proofs.lemmas.Bool.{true≢false, eqb-true}
 use Rattle.std.proofs.lemmas.List.Elements.{All-contains, All-from_recursion}
 use Rattle.misra_base.specs.declared.place.Place.{Place}
@@ -11,7 +10,6 @@ use Rattle.c_lexer.specs.declared.piece.LexemeKind.{LexemeKind}
 use Rattle.c_lexer.specs.declared.piece.LexemeKind.TheVariants.{Word, Number, Character, String, Punctuator}
 use Rattle.c_lexer.specs.declared.piece.Piece.{Piece}
 use Rattle.c_lexer.specs.declared.piece.Piece.TheVariants.{Passed, Token as Cut, Faulty}
-use Rattle.c_lexer.specs.declared.token_class.TokenClass.{TokenClass}
 use Rattle.c_lexer.specs.declared.token_class.TokenClass.TheVariants.{Identifier, TypedefName, Constant, NamedConstruct}
 use Rattle.c_lexer.specs.declared.typedef_name.Stretch.{Stretch}
 use Rattle.c_lexer.specs.Identifiers.{is_reserved, is_identifier}
@@ -22,7 +20,7 @@ use Rattle.c_lexer.specs.Slices.{token_text}
 use Rattle.c_lexer.specs.TokenClasses.{class_rows, number_rows, class_of, class_number}
 use Rattle.c_lexer.specs.Tokens.{Lexed, class_of_lexeme, with_piece, lexed_from, lexed_of, tokens_of}
 use Rattle.c_lexer.specs.TypedefNames.{has_class, is_name, classed, stretch_behind, names_behind, named_from, outside, with_typedef_names}
-use Rattle.lexical_laws.specs.Keywords.{keywords, IsName, KeywordIsNoIdentifier, KeywordIsNoName}
+use Rattle.lexical_laws.specs.Keywords.{keywords, KeywordIsNoIdentifier, KeywordIsNoName}
 
 -- a test that all words of a list pass
 passed_by : (test : List ℕ → Bool) (words : List (List ℕ)) → list_all test words ≡ true → AllByRecursion (λ w. test w ≡ true) words

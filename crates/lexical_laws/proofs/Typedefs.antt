@@ -1,16 +1,15 @@
 -- Only the word `typedef` has its class.
-use Rattle.std.proofs.Common.{◌≡◌, ℕ, ◌==◌, Bool, true, false, cond, not, ◌&&◌, ◌||◌, List, [], ◌∷◌, codes, Option, None, Some, refl, sym, ap, ◌∙◌, subst}
+use Rattle.std.proofs.Common.{◌≡◌, ℕ, ◌==◌, Bool, true, false, cond, not, ◌&&◌, ◌||◌, List, [], ◌∷◌, codes, Option, None, Some, refl, sym, subst}
 use Rattle.std.specs.List.{list_all}
 use Rattle.std.specs.Str.{bytes_eq}
-use Rattle.std.proofs.lemmas.Bool.{true≢false, eqb-true}
+use Rattle.std.proofs.lemmas.Bool.{true≢false}
 use Rattle.std.proofs.lemmas.Slice.Eq.{bytes_eq-Decides}
 use Rattle.c_lexer.specs.declared.piece.LexemeKind.{LexemeKind}
 use Rattle.c_lexer.specs.declared.piece.LexemeKind.TheVariants.{Word, Number, Character, String, Punctuator}
 use Rattle.c_lexer.specs.declared.token_class.TokenClass.{TokenClass}
-use Rattle.c_lexer.specs.declared.token_class.TokenClass.TheVariants.{Identifier, Typedef, Constant, NamedConstruct}
+use Rattle.c_lexer.specs.declared.token_class.TokenClass.TheVariants.{Typedef, Constant, NamedConstruct}
 use Rattle.c_lexer.specs.Literals.{is_floating}
 use Rattle.c_lexer.specs.TokenClasses.{class_rows, class_in, class_of, class_number}
-use Rattle.c_lexer.specs.Tokens.{class_of_lexeme}
 use Rattle.lexical_laws.specs.Classes.{kind_at, class_at, class_of_word}
 
 abbrev is_typedef : TokenClass → Bool
@@ -25,7 +24,7 @@ unfolding class_rows
 rows_right = refl
 
 same_bytes : (a b : List ℕ) → bytes_eq a b ≡ true → a ≡ b
-same_bytes a b e = (bytes_eq-Decides a b (bytes_eq a b) refl).0 e
+same_bytes a b e = (bytes_eq-Decides a b).0 e
 
 only_in : (rows : List (List ℕ × TokenClass)) (word : List ℕ) → list_all is_right rows ≡ true → is_typedef (class_in rows word) ≡ true → bytes_eq (codes "typedef") word ≡ true
 only_in [] word all e = absurd (true≢false (sym e))
@@ -35,6 +34,7 @@ only_in (r ∷ rs) word all e = here (is_right r) (bytes_eq r.0 word) refl refl 
     marked true true is_x is_y h k = is_y
     marked true false is_x is_y h k = absurd (true≢false (sym h))
     marked false y is_x is_y h k = absurd (true≢false (sym k))
+
     here : (x y : Bool) → is_right r ≡ x → bytes_eq r.0 word ≡ y → (x && list_all is_right rs) ≡ true → is_typedef (cond y r.1 (class_in rs word)) ≡ true
         → (list_all is_right rs ≡ true → is_typedef (class_in rs word) ≡ true → bytes_eq (codes "typedef") word ≡ true) → bytes_eq (codes "typedef") word ≡ true
     here true true is_x is_y h k later =
