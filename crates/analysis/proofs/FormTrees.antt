@@ -1,5 +1,5 @@
 -- Derivation trees of texts of the form.
-use Rattle.std.proofs.Common.{◌≡◌, ◌≢◌, ◌≤◌, ◌==◌, ℕ, ◌+◌, suc, Bool, true, false, not, ◌&&◌, nat_le, List, [], ◌∷◌, ◌++◌, All, length, Option, Some, None, slice_get, append-nil, refl, sym, ap, ◌∙◌, subst, arith}
+use Rattle.std.proofs.Common.{◌≡◌, ◌≢◌, ◌≤◌, ◌==◌, ℕ, ◌+◌, suc, Bool, true, false, cond, not, ◌&&◌, nat_le, List, [], ◌∷◌, ◌++◌, All, length, Option, Some, None, slice_get, append-nil, refl, sym, ap, ◌∙◌, subst, arith}
 use Rattle.std.specs.List.{list_all, AllByRecursion}
 use Rattle.std.specs.Str.{bytes_eq}
 use Rattle.std.proofs.lemmas.Bool.{true≢false, eqb-true, eqb-false, leb-true}
@@ -68,7 +68,7 @@ IsShallow depths = AllByRecursion (λ depth. depth ≤ 64) depths
 
 -- the forest has these roots and these leaves, none of them nested too deep
 pub record Derives (xs : List ℕ) (forest : Forest) (words : List ℕ) : Type 0 where
-  pub forest : IsForest PRODUCTIONS xs forest
+  pub expands : IsForest PRODUCTIONS xs forest
   pub reads : leaves forest ≡ words
   pub shallow : IsShallow (nestings PRODUCTIONS 0 forest)
 
@@ -82,15 +82,15 @@ shallow_and (x ∷ xs) ys h k = (h.0, shallow_and xs ys h.1 k)
 
 pub computed : (xs : List ℕ) (forest : Forest) → is_forest xs forest ≡ true → list_all (λ depth. nat_le depth 64) (nestings PRODUCTIONS 0 forest) ≡ true
     → Derives xs forest (leaves forest)
-computed xs forest e k = record { forest = forest_is xs forest e; reads = refl; shallow = shallow_by (nestings PRODUCTIONS 0 forest) k }
+computed xs forest e k = record { expands = forest_is xs forest e; reads = refl; shallow = shallow_by (nestings PRODUCTIONS 0 forest) k }
 
 pub nothing : Derives [] Empty []
-nothing = record { forest = tt; reads = refl; shallow = tt }
+nothing = record { expands = tt; reads = refl; shallow = tt }
 
 pub leaf : (x : ℕ) (xs : List ℕ) (others : Forest) (words : List ℕ) → is_token x ≡ true → Derives xs others words → Derives (x ∷ xs) (Leaf x others) (x ∷ words)
 leaf x xs others words e h =
     record {
-      forest = (refl, token_is x e, h.forest);
+      expands = (refl, token_is x e, h.expands);
       reads = ap (λ (ws : List ℕ). x ∷ ws) h.reads;
       shallow = (omega arith, h.shallow);
     }
@@ -116,14 +116,14 @@ node number x right xs children others inner words e h k =
     let same : right_of p ≡ right = (bytes_eq-Decides (right_of p) right).0 second.0 in
     let depth : 0 + deepening (slice_get PRODUCTIONS number) ≡ 0 = no_deeper (slice_get PRODUCTIONS number) p found.1 second.1 in
     record {
-      forest = (p, found.1, eqb-true p.left x first.0, subst (λ (ys : List ℕ). IsForest PRODUCTIONS ys children) (sym same) h.forest, k.forest);
+      expands = (p, found.1, eqb-true p.left x first.0, subst (λ (ys : List ℕ). IsForest PRODUCTIONS ys children) (sym same) h.expands, k.expands);
       reads = ap (λ (ws : List ℕ). ws ++ leaves others) h.reads ∙ ap (λ (ws : List ℕ). inner ++ ws) k.reads;
       shallow = shallow_and (nestings PRODUCTIONS (0 + deepening (slice_get PRODUCTIONS number)) children) (nestings PRODUCTIONS 0 others)
           (subst (λ (n : ℕ). IsShallow (nestings PRODUCTIONS n children)) (sym depth) h.shallow) k.shallow;
     }
 
 pub reads_as : (xs : List ℕ) (forest : Forest) (words others : List ℕ) → words ≡ others → Derives xs forest words → Derives xs forest others
-reads_as xs forest words others e h = record { forest = h.forest; reads = h.reads ∙ e; shallow = h.shallow }
+reads_as xs forest words others e h = record { expands = h.expands; reads = h.reads ∙ e; shallow = h.shallow }
 
 -- ---- the trees of a text
 
@@ -247,7 +247,7 @@ function_derived operations =
     (leaf 38 _ _ _ refl
     (last 13 107 (145 ∷ []) _ _ refl
     (last 96 145 (39 ∷ 146 ∷ 40 ∷ []) _ _ refl
-    (leaf 39 _ _ _ refl (items_derived operations (40 ∷ []) (Leaf 40 Empty) (40 ∷ []) (leaf 40 [] Empty [] refl nothing)))))))))
+    (leaf 39 _ _ _ refl (items_derived operations (40 ∷ []) (Leaf 40 Empty) (40 ∷ []) (leaf 40 [] Empty [] refl nothing))))))))))
 
 main_derived : (operations : List Operation) → Derives (122 ∷ 103 ∷ []) (main_tree operations) (externals_classes zero operations)
 main_derived operations =

@@ -1,5 +1,7 @@
 -- The sample programs are those of texts.
-use Rattle.std.proofs.Common.{◌≡◌, ◌≢◌, ℕ, List, [], ◌∷◌, None, refl, arith}
+use Rattle.std.proofs.Common.{◌≡◌, ◌≢◌, ℕ, List, [], ◌∷◌, None, Bool, true, false, refl, sym, ap, ◌∙◌, arith}
+use Rattle.std.proofs.lemmas.Bool.{true≢false}
+use Rattle.misra_base.specs.declared.finding.Finding.{Finding}
 use Rattle.c_lexer.specs.Integers.{integer_literal}
 use Rattle.c_lexer.specs.Identifiers.{is_reserved}
 use Rattle.c_lexer.specs.Limits.{lexical_fault}
@@ -34,9 +36,16 @@ pub unlock_supported : FormIsSupported → IsSupportedAs unlock_text unlock_alon
 unlock_supported law =
     record { lexed = unlock_lexed; parsed = (law unlock_text unlock_alone unlock_lexed unlock_form unlock_words).1.parsed; program = unlock_program }
 
-pub unlock_finding : findings_of unlock_alone ≢ []
+abbrev is_some_found : List Finding → Bool
+is_some_found [] = false
+is_some_found (f ∷ fs) = true
+
+some_found : is_some_found (findings_of unlock_alone) ≡ true
 unfolding is_possible
-unlock_finding e = cc
+some_found = refl
+
+pub unlock_finding : findings_of unlock_alone ≢ []
+unlock_finding e = true≢false (sym some_found ∙ ap (λ (fs : List Finding). is_some_found fs) e)
 
 lock_form : IsOfForm lock_and_unlock
 unfolding is_reserved number_rows class_rows

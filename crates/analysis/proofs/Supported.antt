@@ -22,7 +22,7 @@ parsed law text p form words =
     let classes = law text none ∙ ap (λ (ws : List (List ℕ)). map class_of_word ws) words ∙ known.classes_are in
     let tree = text_tree (length p.mutexes) (operations_of p.calls) in
     let derived = text_derived (length p.mutexes) (operations_of p.calls) in
-    (leftmost tree, (tree, record { derived = derived.forest; reads = derived.reads ∙ sym classes; order = refl }, All-from_recursion (λ depth. depth ≤ 64) (nestings PRODUCTIONS 0 tree) derived.shallow))
+    (leftmost tree, (tree, record { derived = derived.expands; reads = derived.reads ∙ sym classes; order = refl }, All-from_recursion (λ depth. depth ≤ 64) (nestings PRODUCTIONS 0 tree) derived.shallow))
 
 pub form_supported : ClassesAreOfWords → FormIsSupported
 form_supported law text p none form words =
