@@ -10,7 +10,7 @@ use Rattle.misra_base.specs.declared.finding.Finding.{Finding}
 use Rattle.misra_base.specs.declared.deviation.Deviation.{Deviation}
 use Rattle.misra_base.specs.declared.category.Plan.{Plan}
 use Rattle.compliance_core.specs.Covers.{is_deviated}
-use Rattle.compliance_core.specs.Levels.{count_against, summary_row, summary_of, uncovered_of, deviated_of}
+use Rattle.compliance_core.specs.Levels.{count_against, summary_row, uncovered_of, deviated_of}
 use Rattle.compliance_core.specs.Laws.{findings_in, RowsHaveAll, SummaryHasAll}
 
 one : (a b : Bool) → cond (a && not b) 1 0 + cond (a && b) 1 0 ≡ cond a 1 0

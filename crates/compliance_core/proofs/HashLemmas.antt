@@ -1,5 +1,5 @@
 -- A deviation that covers a finding has one of its hashes.
-use Rattle.std.proofs.Common.{◌≡◌, ◌∙◌, ℕ, suc, zero, eqb, Bool, true, false, cond, not, ◌&&◌, ◌||◌, List, [], ◌∷◌, ◌++◌, take, drop, Option, Some, None, All, refl, sym, ap, subst, arith, ⊎_elim, ◌⊎◌, inl, inr, ◌+◌, ◌<◌, ◌≤◌, length, get_or, codes}
+use Rattle.std.proofs.Common.{◌≡◌, ◌∙◌, ℕ, suc, zero, eqb, Bool, true, false, cond, not, ◌&&◌, ◌||◌, List, [], ◌∷◌, ◌++◌, take, drop, Option, Some, None, refl, sym, ap, subst, arith, ⊎_elim, ◌⊎◌, inl, inr, ◌+◌, ◌<◌, ◌≤◌, length, get_or, codes}
 use Rattle.std.specs.List.{prefix_len}
 use Rattle.std.specs.Char.{is_ascii_digit}
 use Rattle.std.specs.Prelude.{option_and_then}
@@ -15,8 +15,7 @@ use Rattle.misra_base.specs.declared.deviation.Deviation.{Deviation}
 use Rattle.misra_base.specs.declared.deviation.Form.{Form}
 use Rattle.misra_base.specs.declared.deviation.Form.TheVariants.{Text, Pattern}
 use Rattle.misra_base.specs.declared.category.Plan.{Plan}
-use Rattle.compliance_core.specs.Categories.{is_mandatory, revised_category}
-use Rattle.compliance_core.specs.Covers.{does_cover, is_approved, stands_as, stands_for}
+use Rattle.compliance_core.specs.Covers.{does_cover, stands_as, stands_for}
 use Rattle.compliance_core.specs.Hashes.{HasFinding, HasObject, IsFilter, deviation_hash, fixed_part, hash_from, outside_from, words_hash}
 use Rattle.compliance_core.specs.Marks.{can_cover, is_other}
 use Rattle.compliance_core.specs.Patterns.{after_byte, after_digits, after_index, begins_with_any, filled_past, is_filled}

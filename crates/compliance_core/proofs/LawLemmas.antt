@@ -9,13 +9,10 @@ use Rattle.misra_base.specs.declared.guideline.Guideline.{Guideline}
 use Rattle.misra_base.specs.declared.guideline.Guideline.TheVariants.{D5_1, D5_2, D5_3, R15_4, R15_5, R17_7, R17_8, R21_25, R21_26, R22_11, R22_12, R22_13, R22_14, R22_15, R22_16, R22_17, R22_18, R22_19, R22_20}
 use Rattle.misra_base.specs.declared.category.Category.{Category}
 use Rattle.misra_base.specs.declared.category.Category.TheVariants.{Mandatory, Required, Advisory, Disapplied}
-use Rattle.misra_base.specs.declared.finding.Finding.{Finding}
-use Rattle.misra_base.specs.declared.deviation.Deviation.{Deviation}
-use Rattle.misra_base.specs.declared.category.Plan.{Plan}
 use Rattle.compliance_core.specs.declared.plan.PlanStop.{PlanStop}
 use Rattle.compliance_core.specs.Categories.{is_allowed, is_mandatory, may_become, misra_category, revised_category}
-use Rattle.compliance_core.specs.Covers.{does_cover, is_approved, stands_for, stands_as}
-use Rattle.compliance_core.specs.Plans.{Entry, entries_in, entries_of, entry_for, entry_of, guideline_named, category_of, plan_in, plan_of, root_table, with_first}
+use Rattle.compliance_core.specs.Covers.{is_approved, stands_for, stands_as}
+use Rattle.compliance_core.specs.Plans.{Entry, entries_in, entries_of, entry_for, entry_of, guideline_named, category_of, plan_in, root_table, with_first}
 use Rattle.compliance_core.specs.Laws.{MandatoryIsKept, MandatoryStands, PlansAreAllowed}
 
 -- ---- plans

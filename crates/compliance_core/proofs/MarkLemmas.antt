@@ -1,6 +1,5 @@
 -- Marks of findings, deviation by deviation, and their count.
 use Rattle.std.proofs.Common.{◌≡◌, ◌∙◌, ℕ, ◌+◌, ◌<◌, ◌≤◌, Bool, true, false, cond, not, ◌&&◌, ◌||◌, List, [], ◌∷◌, ◌++◌, length, take, drop, get_or, set, refl, sym, ap, subst, arith, ⊎_elim}
-use Rattle.std.specs.List.{count_by, list_any}
 use Rattle.std.proofs.lemmas.Bool.{cases_Bool, cases_eq}
 use Rattle.std.proofs.lemmas.List.{get_or-set_same, get_or-set_other, take_more}
 use Rattle.std.proofs.lemmas.List.Elements.{All-get_or}
@@ -11,8 +10,7 @@ use Rattle.misra_base.specs.declared.guideline.Guideline.{Guideline}
 use Rattle.misra_base.specs.declared.finding.Finding.{Finding}
 use Rattle.misra_base.specs.declared.deviation.Deviation.{Deviation}
 use Rattle.misra_base.specs.declared.category.Plan.{Plan}
-use Rattle.compliance_core.specs.Categories.{is_mandatory, revised_category}
-use Rattle.compliance_core.specs.Covers.{does_cover, is_approved, is_deviated, stands_as, stands_for}
+use Rattle.compliance_core.specs.Covers.{does_cover, is_deviated, stands_as, stands_for}
 use Rattle.compliance_core.specs.Levels.{deviated_of}
 use Rattle.compliance_core.specs.Hashes.{HasFinding, IsFilter, deviation_hash}
 use Rattle.compliance_core.specs.Marks.{IsSettled, can_cover, is_other}

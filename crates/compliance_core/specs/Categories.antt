@@ -1,11 +1,11 @@
 -- Categories of guidelines and what a guideline re-categorisation plan may change, after MISRA Compliance:2020.
-use Rattle.std.specs.Prelude.{ℕ, Bool, true, false, List, map, Option, unwrap_or, slice_get}
+use Rattle.std.specs.Prelude.{Bool, true, false, map, unwrap_or, slice_get}
 use Rattle.std.specs.List.{slice_set}
 use Rattle.misra_base.specs.Guidelines.{guideline_number, all_guidelines}
 use Rattle.misra_base.specs.declared.guideline.Guideline.{Guideline}
 use Rattle.misra_base.specs.declared.guideline.Guideline.TheVariants as guidelines
 use Rattle.misra_base.specs.declared.category.Category.{Category}
-use Rattle.misra_base.specs.declared.category.Category.TheVariants.{Mandatory, Required, Advisory, Disapplied}
+use Rattle.misra_base.specs.declared.category.Category.TheVariants.{Mandatory, Required, Advisory}
 use Rattle.misra_base.specs.declared.category.Plan.{Plan}
 
 abbrev pub misra_category : Guideline → Category

@@ -1,5 +1,5 @@
 -- Levels of compliance, the guideline compliance summary and the claim, after MISRA Compliance:2020.
-use Rattle.std.specs.Prelude.{ℕ, Bool, true, false, not, ◌&&◌, ◌||◌, ◌==◌, if◌then◌else◌, List, [], ◌∷◌, map, count_by, Option}
+use Rattle.std.specs.Prelude.{ℕ, Bool, true, false, not, ◌&&◌, ◌==◌, if◌then◌else◌, List, map, count_by, Option}
 use Rattle.std.specs.List.{find}
 use Rattle.std.specs.Option.{option_map}
 use Rattle.misra_base.specs.Guidelines.{same_guideline, all_guidelines}

@@ -1,5 +1,5 @@
 -- Objects of deviations that stand for several objects: `t[*]` for `t[0]`, `t[1]` and so on.
-use Rattle.std.specs.Prelude.{ℕ, suc, zero, ◌==◌, nat_lt, Bool, true, false, List, [], ◌∷◌, take, drop, Option, Some, None, option_and_then, if◌then◌else◌, codes}
+use Rattle.std.specs.Prelude.{ℕ, suc, zero, ◌==◌, Bool, true, false, List, [], ◌∷◌, take, drop, Option, Some, None, option_and_then, if◌then◌else◌, codes}
 use Rattle.std.specs.Char.{is_ascii_digit}
 use Rattle.std.specs.List.{prefix_len}
 use Rattle.std.specs.Option.{option_map_or}

@@ -1,4 +1,4 @@
-use Rattle.std.proofs.Common.{arith, rules, ◌≤◌, length}
+use Rattle.std.proofs.Common.{arith, ◌≤◌, length}
 use Rattle.misra_base.specs.Rows.{has_bit}
 use Rattle.compliance_core.proofs.HashLemmas.{filter_done, filter_more}
 use Rattle.compliance_core.proofs.hashes.hashes_of.Goals as goal

@@ -1,4 +1,4 @@
-use Rattle.std.proofs.Common.{arith, refl, ℕ, ◌≡◌, ap, cond, ◌&&◌, false, get_or}
+use Rattle.std.proofs.Common.{arith, refl, ℕ, ap, cond, ◌&&◌, false, get_or}
 use Rattle.misra_base.specs.Guidelines.{same_guideline}
 use Rattle.misra_base.specs.declared.finding.Finding.{Finding}
 use Rattle.compliance_core.specs.Levels.{deviated_of}

@@ -1,4 +1,4 @@
-use Rattle.std.proofs.Common.{arith, ◌∙◌, ◌||◌, ap, false, get_or, ◌≤◌, ◌≡◌}
+use Rattle.std.proofs.Common.{arith, ◌∙◌, ◌||◌, ap, false, get_or}
 use Rattle.std.proofs.lemmas.List.{get_or_default}
 use Rattle.compliance_core.specs.Covers.{does_cover}
 use Rattle.compliance_core.proofs.MarkLemmas.{marks_more, marks_behind}

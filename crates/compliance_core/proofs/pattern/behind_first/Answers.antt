@@ -1,6 +1,5 @@
-use Rattle.std.proofs.Common.{arith, rules, ◌≡◌, ◌-◌, Some, None, length, take, drop, sym, ap, ◌∙◌, false}
+use Rattle.std.proofs.Common.{arith, rules, ◌≡◌, ◌-◌, Some, None, length, take, drop, sym, ap, ◌∙◌}
 use Rattle.std.proofs.lemmas.Grind.{common_steps}
-use Rattle.compliance_core.specs.Patterns.{begins_with_any}
 use Rattle.compliance_core.proofs.PatternLemmas.{left_of_any, left_of_byte}
 use Rattle.compliance_core.proofs.pattern.behind_first.Goals as goal
 

@@ -1,4 +1,4 @@
-use Rattle.std.proofs.Common.{◌≡◌, ◌∙◌, ap, sym, Ok, Err, string_bytes}
+use Rattle.std.proofs.Common.{◌≡◌, ◌∙◌, ap, sym, Ok, string_bytes}
 use Rattle.toml.specs.View.{view, members_view}
 use Rattle.compliance_core.specs.Plans.{entries_of, entry_of, with_first}
 use Rattle.compliance_core.proofs.PlanLemmas.{onto, onto_more}
