@@ -1,150 +1,12 @@
-use crate::{PlanStop, claim, covers, level, misra_plan, plan_from_toml, summary, with_category};
+use crate::{
+    allowed, claim, covers, level, misra, misra_plan, plan_from_toml, summary, with_category,
+};
 use misra_base::{
-    Deviation, Finding, FirstDeviation, Form, Guideline, Kind, Name, Place, Plan, Status,
+    Category, Deviation, Finding, FirstDeviation, Form, Guideline, Kind, Name, Place, Plan, Status,
     SummaryRow,
 };
 use std::alloc::{AllocError, Global};
 use std::test::Fail;
-
-/// The bytes of a name, which the tests make of texts alone.
-fn text_of(name: &Name) -> &str {
-    std::str::from_utf8(name.bytes()).unwrap_or("no text")
-}
-
-/// The entries of a plan in one line, or the stop with what it carries.
-fn plan_answer(alloc: Global, text: &str) -> Result<String, AllocError> {
-    match plan_from_toml(alloc, text) {
-        Ok(entries) => {
-            let mut line = String::new(alloc);
-            for (guideline, category) in entries.iter() {
-                let entry = format!(in alloc; "{guideline} {category}, ")?;
-                line.push_str(entry.as_str())?;
-            }
-            Ok(line)
-        }
-        Err(PlanStop::Text) => format!(in alloc; "Text"),
-        Err(PlanStop::Form(key)) => format!(in alloc; "Form {}", text_of(&key)),
-        Err(PlanStop::UnknownGuideline(key)) => {
-            format!(in alloc; "UnknownGuideline {}", text_of(&key))
-        }
-        Err(PlanStop::Lowered(guideline)) => format!(in alloc; "Lowered {guideline}"),
-        Err(PlanStop::Memory) => format!(in alloc; "Memory"),
-    }
-}
-
-#[test]
-fn plans_are_judged_by_their_root_keys_first(rt: HostRuntime) -> Result<(), Fail> {
-    let alloc = rt.alloc();
-    for (text, want) in [
-        ("", "Form categories"),
-        ("# a comment\n", "Form categories"),
-        ("abc = 1", "Form abc"),
-        ("zzz = 1", "Form categories"),
-        ("categories = 1", "Form categories"),
-        ("categories = \"Mandatory\"", "Form categories"),
-        ("categories = []", "Form categories"),
-        ("[[categories]]", "Form categories"),
-        ("categories = {}", ""),
-        ("[categories]\n", ""),
-        ("abc = 1\n[categories]\n", "Form abc"),
-        ("abc = 1\nabb = 2\ncategories = 3", "Form abb"),
-        ("categories = 1\nzzz = 2", "Form categories"),
-        (
-            "zzz = 1\n[categories]\n\"D5.1\" = \"Advisory\"\n",
-            "Form zzz",
-        ),
-        ("Categories = {}", "Form Categories"),
-        ("categoriesx = {}", "Form categories"),
-        ("categorie = {}", "Form categorie"),
-        ("\"\" = 1\n[categories]\n", "Form "),
-        ("[categories]\n[other]\n", "Form other"),
-        ("[a.b]\n[categories]\n", "Form a"),
-        ("categories.\"D5.2\" = \"Required\"", "D5.2 Required, "),
-        ("[categories", "Text"),
-        ("\"D5.2\" = ", "Text"),
-        ("[categories]\n[categories]\n", "Text"),
-        ("categories = {}\n[categories]\n", "Text"),
-    ] {
-        assert_eq!(rt; plan_answer(alloc, text)?.as_str(), want, "at {text}");
-    }
-    Ok(())
-}
-
-#[test]
-fn plans_are_judged_entry_by_entry_in_the_order_of_bytes(rt: HostRuntime) -> Result<(), Fail> {
-    let alloc = rt.alloc();
-    for (entries, want) in [
-        ("\"D5.1\" = \"Advisory\"", "Lowered D5.1"),
-        ("\"R15.5\" = \"Disapplied\"", "R15.5 Disapplied, "),
-        ("D5.1 = \"Mandatory\"", "UnknownGuideline D5"),
-        ("\"D5.1\" = \"mandatory\"", "Form D5.1"),
-        ("\"D5.1\" = \"MANDATORY\"", "Form D5.1"),
-        ("\"D5.1\" = \"Mandatory \"", "Form D5.1"),
-        ("\"D5.1\" = \"\"", "Form D5.1"),
-        ("\"D5.1\" = 1", "Form D5.1"),
-        ("\"D5.1\" = true", "Form D5.1"),
-        ("\"D5.1\" = [\"Mandatory\"]", "Form D5.1"),
-        ("\"D5.1\" = {}", "Form D5.1"),
-        ("\"D5.1\" = 07:32", "Form D5.1"),
-        ("\"D5.9\" = \"Mandatory\"", "UnknownGuideline D5.9"),
-        ("\"D5.9\" = 1", "UnknownGuideline D5.9"),
-        ("\"d5.1\" = \"Mandatory\"", "UnknownGuideline d5.1"),
-        ("\"D5_1\" = \"Mandatory\"", "UnknownGuideline D5_1"),
-        ("\"D5.1 \" = \"Mandatory\"", "UnknownGuideline D5.1 "),
-        (
-            "\"R99.1\" = \"Required\"\n\"D5.1\" = \"Advisory\"",
-            "Lowered D5.1",
-        ),
-        (
-            "\"D5.1\" = \"Advisory\"\n\"A1\" = \"Required\"",
-            "UnknownGuideline A1",
-        ),
-        ("\"R22.12\" = \"Required\"", "Lowered R22.12"),
-        ("\"R22.12\" = \"Mandatory\"", "R22.12 Mandatory, "),
-        ("\"R22.14\" = \"Disapplied\"", "Lowered R22.14"),
-        ("\"R22.11\" = \"Disapplied\"", "Lowered R22.11"),
-        ("\"R15.4\" = \"Mandatory\"", "R15.4 Mandatory, "),
-        ("\"R17.8\" = \"Advisory\"", "R17.8 Advisory, "),
-        (
-            "\"R22.20\" = \"Mandatory\"\n\"D5.2\" = \"Mandatory\"\n\"R15.4\" = \"Required\"",
-            "D5.2 Mandatory, R15.4 Required, R22.20 Mandatory, ",
-        ),
-        ("'D5.2' = 'Required'", "D5.2 Required, "),
-        ("\"\\x445.2\" = \"Required\"", "D5.2 Required, "),
-        ("\"D5.2\" = \"\"\"\nRequired\"\"\"", "D5.2 Required, "),
-        ("\"D5.2\" = \"Required\"\n\"D5.2\" = \"Mandatory\"", "Text"),
-        (
-            "\"D5.1\" = \"Mandatory\"\n\"D5.2\" = \"Mandatory\"\n\"D5.3\" = \"Mandatory\"
-            \"R15.4\" = \"Mandatory\"\n\"R15.5\" = \"Mandatory\"\n\"R17.7\" = \"Mandatory\"
-            \"R17.8\" = \"Mandatory\"\n\"R21.25\" = \"Mandatory\"\n\"R21.26\" = \"Mandatory\"
-            \"R22.11\" = \"Mandatory\"\n\"R22.12\" = \"Mandatory\"\n\"R22.13\" = \"Mandatory\"
-            \"R22.14\" = \"Mandatory\"\n\"R22.15\" = \"Mandatory\"\n\"R22.16\" = \"Mandatory\"
-            \"R22.17\" = \"Mandatory\"\n\"R22.18\" = \"Mandatory\"\n\"R22.19\" = \"Mandatory\"
-            \"R22.20\" = \"Mandatory\"",
-            "D5.1 Mandatory, D5.2 Mandatory, D5.3 Mandatory, R15.4 Mandatory, R15.5 Mandatory, R17.7 Mandatory, R17.8 Mandatory, R21.25 Mandatory, R21.26 Mandatory, R22.11 Mandatory, R22.12 Mandatory, R22.13 Mandatory, R22.14 Mandatory, R22.15 Mandatory, R22.16 Mandatory, R22.17 Mandatory, R22.18 Mandatory, R22.19 Mandatory, R22.20 Mandatory, ",
-        ),
-    ] {
-        let text = format!(in alloc; "[categories]\n{entries}\n")?;
-        assert_eq!(rt;
-            plan_answer(alloc, text.as_str())?.as_str(),
-            want,
-            "at {entries}"
-        );
-    }
-    for text in [
-        "categories = { \"D5.2\" = \"Required\" }",
-        "categories = { \"D5.2\" = \"Required\", }",
-        "categories = {\n  \"D5.2\" = \"Required\",\n}",
-        "\u{feff}[categories]\n\"D5.2\" = \"Required\"",
-    ] {
-        assert_eq!(rt;
-            plan_answer(alloc, text)?.as_str(),
-            "D5.2 Required, ",
-            "at {text}"
-        );
-    }
-    Ok(())
-}
 
 fn name(alloc: Global, text: &str) -> Result<Name, AllocError> {
     Name::from_bytes(alloc, text.as_bytes())
@@ -192,6 +54,86 @@ fn approved(
     })
 }
 
+#[test]
+fn guidelines_have_their_categories_and_a_plan_may_change_some(
+    rt: HostRuntime,
+) -> Result<(), Fail> {
+    for (guideline, category) in [
+        (Guideline::D5_1, Category::Required),
+        (Guideline::D5_2, Category::Required),
+        (Guideline::D5_3, Category::Required),
+        (Guideline::R15_4, Category::Advisory),
+        (Guideline::R15_5, Category::Advisory),
+        (Guideline::R17_7, Category::Required),
+        (Guideline::R17_8, Category::Advisory),
+        (Guideline::R21_25, Category::Required),
+        (Guideline::R21_26, Category::Required),
+        (Guideline::R22_11, Category::Required),
+        (Guideline::R22_12, Category::Mandatory),
+        (Guideline::R22_13, Category::Required),
+        (Guideline::R22_14, Category::Mandatory),
+        (Guideline::R22_15, Category::Required),
+        (Guideline::R22_16, Category::Required),
+        (Guideline::R22_17, Category::Required),
+        (Guideline::R22_18, Category::Required),
+        (Guideline::R22_19, Category::Required),
+        (Guideline::R22_20, Category::Mandatory),
+    ] {
+        let advisory = category == Category::Advisory;
+        assert_eq!(rt; misra(guideline), category);
+        assert_eq!(rt; allowed(guideline, Category::Mandatory), true);
+        assert_eq!(rt;
+            allowed(guideline, Category::Required),
+            category != Category::Mandatory
+        );
+        assert_eq!(rt; allowed(guideline, Category::Advisory), advisory);
+        assert_eq!(rt; allowed(guideline, Category::Disapplied), advisory);
+    }
+    Ok(())
+}
+
+// The finding is of D5.1, in `first` at `x`, under a plan with this category for D5.1.
+#[test]
+fn a_deviation_covers_by_status_guideline_category_and_names(rt: HostRuntime) -> Result<(), Fail> {
+    use Category::{Advisory, Disapplied, Mandatory, Required};
+    use Guideline::{D5_1, D5_2};
+    use Status::{Approved, Raised, Rejected, Withdrawn};
+
+    let alloc = rt.alloc();
+    let finding = finding(alloc, D5_1, place(11, 5), "first", "x", Kind::Race)?;
+    for (status, guideline, category, function, object, want) in [
+        (Approved, D5_1, Required, "first", "x", true),
+        (Raised, D5_1, Required, "first", "x", false),
+        (Rejected, D5_1, Required, "first", "x", false),
+        (Withdrawn, D5_1, Required, "first", "x", false),
+        (Approved, D5_2, Required, "first", "x", false),
+        (Approved, D5_1, Mandatory, "first", "x", false),
+        (Approved, D5_1, Mandatory, "*", "*", false),
+        (Approved, D5_1, Advisory, "first", "x", true),
+        (Approved, D5_1, Disapplied, "first", "x", true),
+        (Approved, D5_1, Required, "*", "x", true),
+        (Approved, D5_1, Required, "first", "*", true),
+        (Approved, D5_1, Required, "*", "*", true),
+        (Approved, D5_1, Required, "second", "x", false),
+        (Approved, D5_1, Required, "first", "y", false),
+        (Approved, D5_1, Required, "First", "x", false),
+        (Approved, D5_1, Required, "firs", "x", false),
+        (Approved, D5_1, Required, "f*", "x", false),
+        (Approved, D5_1, Required, "**", "x", false),
+        (Approved, D5_1, Required, "first", "", false),
+    ] {
+        let mut deviation = Deviation::from_first(approved(alloc, guideline, function, object)?);
+        deviation.status = status;
+        let plan = with_category(&misra_plan(), D5_1, category);
+        assert_eq!(rt;
+            covers(&plan, &deviation, &finding),
+            want,
+            "{status} {guideline} {category} {function} {object}"
+        );
+    }
+    Ok(())
+}
+
 /// Whether an approved pattern from R22.11 for the function and object covers a finding of R22.11 at the object.
 fn pattern_covers(alloc: Global, pattern: &str, object: &str) -> Result<bool, AllocError> {
     let mut deviation = Deviation::from_first(approved(alloc, Guideline::R22_11, "main", pattern)?);
@@ -230,7 +172,9 @@ fn patterns_stand_for_numbers_in_brackets_alone(rt: HostRuntime) -> Result<(), F
         ("s.a[*].b[*]", "s.a[3].b[]", false),
         ("s.a[*].b[*]", "s.a[*].b[1]", false),
         ("s.a[*].b", "s.a[3].b", true),
-        ("[*]", "[5]", true),
+        ("[*]", "[]", false),
+        ("[*]", "[12]", true),
+        ("[*]", "[x]", false),
         ("[*", "[*", true),
         ("t[*", "t[1", false),
         ("t*]", "t1]", false),
@@ -352,13 +296,15 @@ fn a_pattern_covers_what_the_same_text_without_a_form_does_not(
             Kind::Again
         )?,
     ]?;
-    for (form, want) in [
-        (Form::Pattern, "R22.11 Required Deviations 0 4"),
-        (Form::Text, "R22.11 Required Violations 4 0"),
+    for (pattern, want) in [
+        (true, "R22.11 Required Deviations 0 4"),
+        (false, "R22.11 Required Violations 4 0"),
     ] {
         let first = approved(alloc, Guideline::R22_11, "main", "t[*]")?;
         let mut deviation = Deviation::from_first(first);
-        deviation.form = form;
+        if pattern {
+            deviation.form = Form::Pattern;
+        }
         let deviations = vec![in alloc; deviation]?;
         let row = level(&plan, &deviations, &findings, Guideline::R22_11);
         assert_eq!(rt; row_text(alloc, &row)?.as_str(), want);
