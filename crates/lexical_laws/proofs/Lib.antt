@@ -1,1 +1,10 @@
 mod Rising
+mod Closing
+mod Counting
+mod Reserved
+mod Beginnings
+mod Longest
+mod Cuts
+mod Laying
+mod Typedefs
+mod Classed

@@ -1,1 +1,7 @@
 pub mod Places
+pub mod Comments
+pub mod Classes
+pub mod Lexemes
+pub mod Parts
+pub mod Keywords
+pub mod Values
