@@ -56,7 +56,7 @@ fn sixty_four_may_nest_and_sixty_five_may_not(rt: HostRuntime) -> Result<(), Fai
         // A bracket is a conditional and a unary expression.
         ("(", ")", 30, "read"),
         ("(", ")", 31, "too deep at 1:40"),
-        // A `?` behind a bracket.
+        // An operator before each bracket counts once more.
         ("!(", ")", 20, "read"),
         ("!(", ")", 21, "too deep at 1:51"),
     ] {

@@ -82,7 +82,7 @@ pub(crate) const EXPRESSIONS: [(&str, &str); 76] = [
     ("sizeof(enum { A = 1, B, C = A + 2 })", "(sizeof@1:9 <(enum@1:16 A@1:23=#1@1:27 B@1:30 C@1:33=(A@1:37 Add@1:39 #2@1:41))@1:43>)"),
     ("sizeof(enum { A, })", "(sizeof@1:9 <(enum@1:16 A@1:23 ,)@1:26>)"),
     ("sizeof(int *)", "(sizeof@1:9 <Int:int@1:16 *@1:20>)"),
-    ("sizeof(int * const * volatile const *)", "(sizeof@1:9 <Int:int@1:16 *@4:Const *@6:Volatile:Const *@1:45>)"),
+    ("sizeof(int * const * volatile const *)", "(sizeof@1:9 <Int:int@1:16 *@1:20:Const *@1:28:Volatile:Const *@1:45>)"),
 ];
 
 /// Declarations of objects, and what they say: specifiers, then objects.
@@ -92,7 +92,7 @@ pub(crate) const DECLARATIONS: [(&str, &str); 15] = [
     ("int a;", "Int:int@1:1; a@1:5"),
     ("int a, b;", "Int:int@1:1; a@1:5; b@1:8"),
     ("static const int *a, **b[2];", "Static:static@1:1 Const:const@1:8 Int:int@1:14; a@1:19 *@1:18; b@1:24 *@1:22 *@1:23 [#2@1:26]@1:27"),
-    ("int * const volatile a;", "Int:int@1:1; a@1:22 *@2:Const:Volatile"),
+    ("int * const volatile a;", "Int:int@1:1; a@1:22 *@1:5:Const:Volatile"),
     ("int a[], b[2][c + 1];", "Int:int@1:1; a@1:5 []@1:7; b@1:10 [#2@1:12]@1:13 [(c@1:15 Add@1:17 #1@1:19)]@1:20"),
     ("int a = 1, b, c = d;", "Int:int@1:1; a@1:5 =@1:7 #1@1:9; b@1:12; c@1:15 =@1:17 d@1:19"),
     ("int a[2] = { 1, 2 };", "Int:int@1:1; a@1:5 [#2@1:7]@1:8 =@1:10 (list@1:12 #1@1:14 #2@1:17)@1:19"),
@@ -101,7 +101,7 @@ pub(crate) const DECLARATIONS: [(&str, &str); 15] = [
     ("struct s a;", "(struct@1:1 s@1:8); a@1:10"),
     ("struct { int *a; } b = { &c };", "(struct@1:1 {Int:int@1:10 a@1:15 *@1:14})@1:18; b@1:20 =@1:22 (list@1:24 (Address@1:26 c@1:27))@1:29"),
     ("enum e { A, B } a = A;", "(enum@1:1 e@1:6 A@1:10 B@1:13)@1:15; a@1:17 =@1:19 A@1:21"),
-    ("typedef int t; t a = sizeof(t *);", "typedef:a@1:18; =@1:20 =@1:22 (sizeof@1:28 <typedef:*@1:31 *@1:32>)"),
-    ("typedef int t; struct t a = b.t + c->t;", "(struct@1:23 a@1:25); =@1:27 =@1:29 ((.@1:30 (member@1:31 +@1:33)) Add@1:35 (->@1:36 (arrow@1:38 ;@1:39)))"),
-    ("typedef int t; enum t { A } a = (t)A;", "(enum@1:21 {@1:23 }@1:27)@1:29; =@1:31 =@1:33 (cast@1:34 <typedef:)@1:35> ;@1:37)"),
+    ("typedef int t; t a = sizeof(t *);", "typedef:t@1:16; a@1:18 =@1:20 (sizeof@1:22 <typedef:t@1:29 *@1:31>)"),
+    ("typedef int t; struct t a = b.t + c->t;", "(struct@1:16 t@1:23); a@1:25 =@1:27 ((b@1:29 (member@1:30 t@1:31)) Add@1:33 (c@1:35 (arrow@1:36 t@1:38)))"),
+    ("typedef int t; enum t { A } a = (t)A;", "(enum@1:16 t@1:21 A@1:25)@1:27; a@1:29 =@1:31 (cast@1:33 <typedef:t@1:34> A@1:36)"),
 ];
