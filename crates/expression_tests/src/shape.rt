@@ -9,23 +9,23 @@ use std::alloc::{AllocError, Global};
 #[derive(Drop)]
 pub(crate) struct Shape {
     alloc: Global,
-    text: Vec<u8>,
+    text: String,
 }
 
 impl Shape {
     pub(crate) fn new(alloc: Global) -> Shape {
         Shape {
             alloc,
-            text: Vec::new(alloc),
+            text: String::new(alloc),
         }
     }
 
-    pub(crate) fn text(&self) -> &[u8] {
-        self.text.as_slice()
+    pub(crate) fn text(&self) -> &str {
+        self.text.as_str()
     }
 
     pub(crate) fn put(&mut self, text: &str) -> Result<(), AllocError> {
-        self.text.extend_from_slice(text.as_bytes())?;
+        self.text.push_str(text)?;
         Ok(())
     }
 
@@ -35,7 +35,8 @@ impl Shape {
     }
 
     fn word(&mut self, word: &Word) -> Result<(), AllocError> {
-        self.text.extend_from_slice(word.text.bytes())?;
+        let text = String::from_utf8_lossy(self.alloc, word.text.bytes())?;
+        self.put(text.as_str())?;
         self.place(word.place)
     }
 
