@@ -20,12 +20,14 @@ module _ (O : Type 0) (sign : O → ℕ) (left : Nonterminal) where
   pub found_among : (os : List O) (others : List ℕ) → Fit os → (first : ℕ) → Contains (map sign os ++ others) first
       → ((o : O) × (first ≡ sign o) × (right_from left first ≡ first ∷ [])) ⊎ Contains others first
   found_among [] others fit first c = inr c
-  found_among (o ∷ os) others fit first c = go c.0 c.1 c.2
+  found_among (o ∷ os) others fit first c = go (λ k l e. found_among os others fit.1 first (k, l, e)) c.0 c.1 c.2
     where
-      go : (k : ℕ) → k < length (map sign (o ∷ os) ++ others) → slice_index_or (map sign (o ∷ os) ++ others) k first ≡ first
+      go : ((k : ℕ) → k < length (map sign os ++ others) → slice_index_or (map sign os ++ others) k first ≡ first
+              → ((o : O) × (first ≡ sign o) × (right_from left first ≡ first ∷ [])) ⊎ Contains others first)
+          → (k : ℕ) → k < length (map sign (o ∷ os) ++ others) → slice_index_or (map sign (o ∷ os) ++ others) k first ≡ first
           → ((o : O) × (first ≡ sign o) × (right_from left first ≡ first ∷ [])) ⊎ Contains others first
-      go zero l e = inl (o, sym e, sym (ap (right_from left) e) ∙ fit.0 ∙ ap (λ (x : ℕ). x ∷ []) e)
-      go (suc k) l e = found_among os others fit.1 first (k, omega arith, e)
+      go before zero l e = inl (o, sym e, sym (ap (right_from left) e) ∙ fit.0 ∙ ap (λ (x : ℕ). x ∷ []) e)
+      go before (suc k) l e = before k (omega arith) e
 
 abbrev unary_number : UnaryOperator → ℕ
 unary_number operator = class_number (unary_sign operator)
@@ -34,7 +36,7 @@ pub unary_found : (first : ℕ) → Contains (firsts N.UnaryOperator) first
     → (operator : UnaryOperator) × (first ≡ class_number (unary_sign operator)) × (right_from N.UnaryOperator first ≡ first ∷ [])
 unary_found first c =
     go (found_among UnaryOperator unary_number N.UnaryOperator (U.Address ∷ U.Indirection ∷ U.Plus ∷ U.Minus ∷ U.Complement ∷ U.Not ∷ []) []
-    (refl, refl, refl, refl, refl, refl, tt) first c)
+    (refl, (refl, (refl, (refl, (refl, (refl, tt)))))) first c)
   where
     go : ((operator : UnaryOperator) × (first ≡ class_number (unary_sign operator)) × (right_from N.UnaryOperator first ≡ first ∷ [])) ⊎ Contains [] first
         → (operator : UnaryOperator) × (first ≡ class_number (unary_sign operator)) × (right_from N.UnaryOperator first ≡ first ∷ [])
@@ -52,7 +54,7 @@ pub keyword_found : (first : ℕ) → Contains (firsts N.Specifier) first → fi
 keyword_found first c no_struct no_enum no_library no_name =
     go (found_among Keyword keyword_number N.Specifier
     (K.Static ∷ K.Extern ∷ K.Inline ∷ K.ThreadLocal ∷ K.Const ∷ K.Volatile ∷ K.Atomic ∷ K.Void ∷ K.Char ∷ K.Short ∷ K.Int ∷ K.Long ∷ K.Signed ∷ K.Unsigned ∷ K.Bool ∷ [])
-    no_keywords (refl, refl, refl, refl, refl, refl, refl, refl, refl, refl, refl, refl, refl, refl, refl, tt) first c)
+    no_keywords (refl, (refl, (refl, (refl, (refl, (refl, (refl, (refl, (refl, (refl, (refl, (refl, (refl, (refl, (refl, tt))))))))))))))) first c)
   where
     go : ((keyword : Keyword) × (first ≡ class_number (keyword_sign keyword)) × (right_from N.Specifier first ≡ first ∷ [])) ⊎ Contains no_keywords first
         → (keyword : Keyword) × (first ≡ class_number (keyword_sign keyword)) × (right_from N.Specifier first ≡ first ∷ [])

@@ -130,12 +130,14 @@ Fit left row (o ∷ os) = (row_of o ≡ row) × (right_from left (sign_number o)
 found_among : (left : Nonterminal) (row : ℕ) (os : List BinaryOperator) → Fit left row os → (first : ℕ) → Contains (map sign_number os) first
     → (operator : BinaryOperator) × (first ≡ sign_number operator) × (row_of operator ≡ row) × (right_from left first ≡ first ∷ [])
 found_among left row [] fit first c = absurd (let h = c.1 in omega arith)
-found_among left row (o ∷ os) fit first c = go c.0 c.1 c.2
+found_among left row (o ∷ os) fit first c = go (λ k l e. found_among left row os fit.2 first (k, l, e)) c.0 c.1 c.2
   where
-    go : (k : ℕ) → k < length (map sign_number (o ∷ os)) → slice_index_or (map sign_number (o ∷ os)) k first ≡ first
+    go : ((k : ℕ) → k < length (map sign_number os) → slice_index_or (map sign_number os) k first ≡ first
+            → (operator : BinaryOperator) × (first ≡ sign_number operator) × (row_of operator ≡ row) × (right_from left first ≡ first ∷ []))
+        → (k : ℕ) → k < length (map sign_number (o ∷ os)) → slice_index_or (map sign_number (o ∷ os)) k first ≡ first
         → (operator : BinaryOperator) × (first ≡ sign_number operator) × (row_of operator ≡ row) × (right_from left first ≡ first ∷ [])
-    go zero l e = (o, sym e, fit.0, sym (ap (right_from left) e) ∙ fit.1 ∙ ap (λ (x : ℕ). x ∷ []) e)
-    go (suc k) l e = found_among left row os fit.2 first (k, omega arith, e)
+    go others zero l e = (o, sym e, fit.0, sym (ap (right_from left) e) ∙ fit.1 ∙ ap (λ (x : ℕ). x ∷ []) e)
+    go others (suc k) l e = others k (omega arith) e
 
 pub equality_operators : AreOperators N.EqualityOperator (row L.Equality)
 equality_operators = found_among N.EqualityOperator (row L.Equality) (B.Equal ∷ B.NotEqual ∷ []) (refl, refl, (refl, refl, (tt)))

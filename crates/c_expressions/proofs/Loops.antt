@@ -45,11 +45,11 @@ comma_is Another last = absurd (last refl)
 comma_is TrailingComma last = refl
 comma_is End last = refl
 
-pub trailing_read : {b c : State} {close : List Piece} {a : State} (after : After) (open : Piece) (elements : List Piece) → after ≢ Another
-    → Reads (open ∷ elements ++ comma_pieces after) a b → b.source ≡ a.source → Reads close b c
-    → Reads (open ∷ elements ++ trailing (is_trailing after) ++ close) a c
-trailing_read {b} {c} {close} {a} after open elements last before same r =
-    subst (λ (ps : List Piece). Reads (open ∷ ps) a c)
+pub trailing_read : {b c : State} {close : List Piece} {a : State} (after : After) (brace : Piece) (elements : List Piece) → after ≢ Another
+    → Reads (brace ∷ elements ++ comma_pieces after) a b → b.source ≡ a.source → Reads close b c
+    → Reads (brace ∷ elements ++ trailing (is_trailing after) ++ close) a c
+trailing_read {b} {c} {close} {a} after brace elements last before same r =
+    subst (λ (ps : List Piece). Reads (brace ∷ ps) a c)
     (append_assoc elements (comma_pieces after) close ∙ ap (λ (ps : List Piece). elements ++ ps ++ close) (comma_is after last)) (followed before same r)
 
 -- behind the last element nothing of the list comes next but its end

@@ -25,30 +25,30 @@ use Rattle.c_expressions.proofs.Levels.{more_is, goes_on, operand_rank, falls, s
 use Rattle.c_expressions.proofs.Loops.{again, behind_read, first_pushed, only_is, placeless, trailing_read}
 use Rattle.c_expressions.proofs.+expression.Goals as goal
 
-pub conditional-returns-clause-reads : goal.conditional-returns-clause-reads
-conditional-returns-clause-reads t c =
+pub expressions::conditional-returns-clause-reads : goal.expressions::conditional-returns-clause-reads
+expressions::conditional-returns-clause-reads t c =
     subst (λ (d : Expressions.ExpressionData). Reads (spelled.expression d) c.args.reader.now c.conditional-2.new.reader) (sym c.in_ok-conditional_of.ensures)
     (into c.open.ensures.same c.in_ok-open.ensures.rest (followed c.in_ok-condition.ensures.reads c.binary.ensures.same (into c.option.ensures.same c.in_ok-option.ensures.rest (followed c.in_ok-question.ensures.reads c.place.ensures.same (followed c.in_ok-then.ensures.reads c.conditional.ensures.same (followed c.in_ok-pass.ensures.reads c.pass.ensures.same (c.in_ok-otherwise.ensures.reads)))))))
 
-pub conditional-returns-clause-grouped : goal.conditional-returns-clause-grouped
-conditional-returns-clause-grouped t c =
+pub expressions::conditional-returns-clause-grouped : goal.expressions::conditional-returns-clause-grouped
+expressions::conditional-returns-clause-grouped t c =
     let above = c.in_ok-condition.ensures.binds in
     subst IsGrouped (sym c.in_ok-conditional_of.ensures) (omega arith, c.in_ok-condition.ensures.grouped, c.in_ok-then.ensures.grouped, c.in_ok-otherwise.ensures.grouped)
 
-pub binary-option-requires-clause-two : goal.binary-option-requires-clause-two
-binary-option-requires-clause-two t c =
+pub expressions::binary-option-requires-clause-two : goal.expressions::binary-option-requires-clause-two
+expressions::binary-option-requires-clause-two t c =
     subst (λ (n : Nonterminal). rights n ≡ only n ∷ [] ∷ []) (sym c.more.ensures) (more_is c.args.level)
 
-pub binary-operator-requires : goal.binary-operator-requires
-binary-operator-requires t c =
+pub expressions::binary-operator-requires : goal.expressions::binary-operator-requires
+expressions::binary-operator-requires t c =
     ap (take 1) (goes_on c.args.level c.more.result c.loop-rest.reader c.option.new.self c.in_ok-option.field-0 c.more.ensures c.if-branch.true c.in_ok-option.ensures.moved)
 
-pub binary-place-requires : goal.binary-place-requires
-binary-place-requires t c =
+pub expressions::binary-place-requires : goal.expressions::binary-place-requires
+expressions::binary-place-requires t c =
     ap (take 1) c.in_ok-operator.ensures.next ∙ ap (λ (t : TokenClass). class_number t ∷ []) (sym c.binary_class.ensures)
 
-pub binary-operand-requires-in-loop-rest : goal.binary-operand-requires-in-loop-rest
-binary-operand-requires-in-loop-rest t c =
+pub expressions::binary-operand-requires-in-loop-rest : goal.expressions::binary-operand-requires-in-loop-rest
+expressions::binary-operand-requires-in-loop-rest t c =
     let next = goes_on c.args.level c.more.result c.loop-rest.reader c.option.new.self c.in_ok-option.field-0 c.more.ensures c.if-branch.true c.in_ok-option.ensures.moved in
     let fewer = c.in_ok-place.ensures.shorter in
     let same_rest = ap length c.in_ok-option.ensures.rest in
@@ -58,8 +58,8 @@ binary-operand-requires-in-loop-rest t c =
     let fall : length c.place.new.self.rest * 64 + operand_rank c.args.level < t = (let d = c.decreases in omega arith) in
     (fall, ap (take 1) (c.in_ok-place.ensures.next ∙ ap (drop 1) c.in_ok-operator.ensures.next ∙ ap (drop 1) next))
 
-pub binary-loop-rest-preserved : goal.binary-loop-rest-preserved
-binary-loop-rest-preserved t c =
+pub expressions::binary-loop-rest-preserved : goal.expressions::binary-loop-rest-preserved
+expressions::binary-loop-rest-preserved t c =
     let next = goes_on c.args.level c.more.result c.loop-rest.reader c.option.new.self c.in_ok-option.field-0 c.more.ensures c.if-branch.true c.in_ok-option.ensures.moved in
     let fewer = c.in_ok-place.ensures.shorter in
     let same_rest = ap length c.in_ok-option.ensures.rest in
@@ -81,19 +81,19 @@ binary-loop-rest-preserved t c =
           (followed c.in_ok-place.ensures.reads c.place.ensures.same c.in_ok-right.ensures.reads));
     }
 
-pub binary-returns-clause-reads : goal.binary-returns-clause-reads
-binary-returns-clause-reads t c =
+pub expressions::binary-returns-clause-reads : goal.expressions::binary-returns-clause-reads
+expressions::binary-returns-clause-reads t c =
     subst (λ (d : Expressions.ExpressionData). Reads (spelled.expression d) c.args.reader.now c.option.new.self) (sym c.in_ok-chain_of.ensures)
     (subst (λ (ps : List Piece). Reads ps c.args.reader.now c.option.new.self) (sym (spelled_chained (expression_view c.in_ok-first.first) _))
     (up_to c.loop-rest.invariant.reads c.in_ok-option.ensures.rest))
 
-pub binary-returns-clause-binds : goal.binary-returns-clause-binds
-binary-returns-clause-binds t c =
+pub expressions::binary-returns-clause-binds : goal.expressions::binary-returns-clause-binds
+expressions::binary-returns-clause-binds t c =
     subst (λ (d : Expressions.ExpressionData). row c.args.level ≤ binding d) (sym c.in_ok-chain_of.ensures)
     (chained_binds (row c.args.level) (expression_view c.in_ok-first.first) _ c.in_ok-first.ensures.binds c.loop-rest.invariant.grouped)
 
-pub binary-returns-clause-grouped : goal.binary-returns-clause-grouped
-binary-returns-clause-grouped t c =
+pub expressions::binary-returns-clause-grouped : goal.expressions::binary-returns-clause-grouped
+expressions::binary-returns-clause-grouped t c =
     subst IsGrouped (sym c.in_ok-chain_of.ensures)
     (chained_grouped (row c.args.level) (expression_view c.in_ok-first.first) _ (some_row c.args.level) c.in_ok-first.ensures.binds c.in_ok-first.ensures.grouped c.loop-rest.invariant.grouped)
 
@@ -101,14 +101,14 @@ pub prefixed-unary_operator-operator-requires : goal.prefixed-unary_operator-ope
 prefixed-unary_operator-operator-requires t c =
     let found = unary_found c.in_ok-first.first c.in_ok-first.ensures.one in (found.0, found.1)
 
-pub prefixed-place-requires : goal.prefixed-place-requires
-prefixed-place-requires t c =
+pub operands::prefixed-place-requires : goal.operands::prefixed-place-requires
+operands::prefixed-place-requires t c =
     let found = unary_found c.in_ok-first.first c.in_ok-first.ensures.one in
     let chosen = ap (λ (s : State). s.pending) c.in_ok-first.ensures.moved ∙ ap (λ (xs : List ℕ). xs ++ drop 1 c.args.reader.now.pending) found.2 in
     ap (take 1) chosen ∙ ap (λ (n : ℕ). n ∷ []) c.unary_operator-operator.ensures ∙ ap (λ (t : TokenClass). class_number t ∷ []) (sym c.unary_class.ensures)
 
-pub prefixed-unary-requires : goal.prefixed-unary-requires
-prefixed-unary-requires t c =
+pub operands::prefixed-unary-requires : goal.operands::prefixed-unary-requires
+operands::prefixed-unary-requires t c =
     let found = unary_found c.in_ok-first.first c.in_ok-first.ensures.one in
     let chosen = ap (λ (s : State). s.pending) c.in_ok-first.ensures.moved ∙ ap (λ (xs : List ℕ). xs ++ drop 1 c.args.reader.now.pending) found.2 in
     let fewer = c.in_ok-place.ensures.shorter in
@@ -116,67 +116,67 @@ prefixed-unary-requires t c =
     let fall : length c.place.new.self.rest * 64 + 10 < t = (let d = c.decreases in omega arith) in
     (fall, ap (take 1) (c.in_ok-place.ensures.next ∙ ap (drop 1) chosen) ∙ sym (behind_first c.args.reader.now.pending) ∙ ap (drop 1) c.requires)
 
-pub prefixed-returns-clause-next : goal.prefixed-returns-clause-next
-prefixed-returns-clause-next t c =
+pub operands::prefixed-returns-clause-next : goal.operands::prefixed-returns-clause-next
+operands::prefixed-returns-clause-next t c =
     let found = unary_found c.in_ok-first.first c.in_ok-first.ensures.one in
     let chosen = ap (λ (s : State). s.pending) c.in_ok-first.ensures.moved ∙ ap (λ (xs : List ℕ). xs ++ drop 1 c.args.reader.now.pending) found.2 in
     c.in_ok-operand.ensures.next ∙ ap (drop 1) c.in_ok-place.ensures.next ∙ ap (λ (xs : List ℕ). drop 1 (drop 1 xs)) chosen ∙ drop_two c.args.reader.now.pending
 
-pub prefixed-returns-clause-reads : goal.prefixed-returns-clause-reads
-prefixed-returns-clause-reads t c =
+pub operands::prefixed-returns-clause-reads : goal.operands::prefixed-returns-clause-reads
+operands::prefixed-returns-clause-reads t c =
     subst (λ (d : Expressions.ExpressionData). Reads (spelled.expression d) c.args.reader.now c.unary.new.reader) (sym c.in_ok-unary_of.ensures)
     (subst (λ (k : TokenClass). Reads (at k c.in_ok-place.place ∷ spelled.expression (expression_view c.in_ok-operand.operand)) c.args.reader.now c.unary.new.reader) c.unary_class.ensures
     (into c.choose.ensures.same c.in_ok-first.ensures.rest (followed c.in_ok-place.ensures.reads c.place.ensures.same (c.in_ok-operand.ensures.reads))))
 
-pub prefixed-returns-clause-binds : goal.prefixed-returns-clause-binds
-prefixed-returns-clause-binds t c =
+pub operands::prefixed-returns-clause-binds : goal.operands::prefixed-returns-clause-binds
+operands::prefixed-returns-clause-binds t c =
     subst (λ (d : Expressions.ExpressionData). 11 ≤ binding d) (sym c.in_ok-unary_of.ensures) (omega arith)
 
-pub prefixed-returns-clause-grouped : goal.prefixed-returns-clause-grouped
-prefixed-returns-clause-grouped t c =
+pub operands::prefixed-returns-clause-grouped : goal.operands::prefixed-returns-clause-grouped
+operands::prefixed-returns-clause-grouped t c =
     subst IsGrouped (sym c.in_ok-unary_of.ensures) (c.in_ok-operand.ensures.binds, c.in_ok-operand.ensures.grouped)
 
-pub size_of-returns-then-leads_to-clause-reads : goal.size_of-returns-then-leads_to-clause-reads
-size_of-returns-then-leads_to-clause-reads t c =
+pub operands::size_of-returns-then-leads_to-clause-reads : goal.operands::size_of-returns-then-leads_to-clause-reads
+operands::size_of-returns-then-leads_to-clause-reads t c =
     subst (λ (d : Expressions.ExpressionData). Reads (spelled.expression d) c.args.reader.now c.pass-2.new.self) (sym c.sizeof_type_of.ensures)
     (followed c.in_ok-place.ensures.reads c.place.ensures.same (followed c.in_ok-pass.ensures.reads c.pass.ensures.same (into c.leads_to.ensures.same c.in_ok-leads_to.ensures.rest (followed c.in_ok-type_name.ensures.reads c.type_name.ensures.same (c.in_ok-pass-2.ensures.reads)))))
 
-pub size_of-returns-then-leads_to-clause-binds : goal.size_of-returns-then-leads_to-clause-binds
-size_of-returns-then-leads_to-clause-binds t c =
+pub operands::size_of-returns-then-leads_to-clause-binds : goal.operands::size_of-returns-then-leads_to-clause-binds
+operands::size_of-returns-then-leads_to-clause-binds t c =
     subst (λ (d : Expressions.ExpressionData). 11 ≤ binding d) (sym c.sizeof_type_of.ensures) (omega arith)
 
-pub size_of-returns-then-leads_to-clause-grouped : goal.size_of-returns-then-leads_to-clause-grouped
-size_of-returns-then-leads_to-clause-grouped t c =
+pub operands::size_of-returns-then-leads_to-clause-grouped : goal.operands::size_of-returns-then-leads_to-clause-grouped
+operands::size_of-returns-then-leads_to-clause-grouped t c =
     subst IsGrouped (sym c.sizeof_type_of.ensures) c.in_ok-type_name.ensures.grouped
 
-pub size_of-returns-clause-reads : goal.size_of-returns-clause-reads
-size_of-returns-clause-reads t c =
+pub operands::size_of-returns-clause-reads : goal.operands::size_of-returns-clause-reads
+operands::size_of-returns-clause-reads t c =
     subst (λ (d : Expressions.ExpressionData). Reads (spelled.expression d) c.args.reader.now c.pass-2.new.self) (sym c.in_ok-sizeof_expression_of.ensures)
     (followed c.in_ok-place.ensures.reads c.place.ensures.same (followed c.in_ok-pass.ensures.reads c.pass.ensures.same (into c.leads_to.ensures.same c.in_ok-leads_to.ensures.rest (followed c.in_ok-operand.ensures.reads c.conditional.ensures.same (c.in_ok-pass-2.ensures.reads)))))
 
-pub size_of-returns-clause-binds : goal.size_of-returns-clause-binds
-size_of-returns-clause-binds t c =
+pub operands::size_of-returns-clause-binds : goal.operands::size_of-returns-clause-binds
+operands::size_of-returns-clause-binds t c =
     subst (λ (d : Expressions.ExpressionData). 11 ≤ binding d) (sym c.in_ok-sizeof_expression_of.ensures) (omega arith)
 
-pub size_of-returns-clause-grouped : goal.size_of-returns-clause-grouped
-size_of-returns-clause-grouped t c =
+pub operands::size_of-returns-clause-grouped : goal.operands::size_of-returns-clause-grouped
+operands::size_of-returns-clause-grouped t c =
     subst IsGrouped (sym c.in_ok-sizeof_expression_of.ensures) c.in_ok-operand.ensures.grouped
 
-pub bracketed-returns-then-leads_to-clause-reads : goal.bracketed-returns-then-leads_to-clause-reads
-bracketed-returns-then-leads_to-clause-reads t c =
+pub operands::bracketed-returns-then-leads_to-clause-reads : goal.operands::bracketed-returns-then-leads_to-clause-reads
+operands::bracketed-returns-then-leads_to-clause-reads t c =
     subst (λ (d : Expressions.ExpressionData). Reads (spelled.expression d) c.args.reader.now c.unary.new.reader) (sym c.in_ok-cast_of.ensures)
     (followed c.in_ok-place.ensures.reads c.place.ensures.same (into c.leads_to.ensures.same c.in_ok-leads_to.ensures.rest (followed c.in_ok-type_name.ensures.reads c.type_name.ensures.same (followed c.in_ok-pass.ensures.reads c.pass.ensures.same (c.in_ok-operand.ensures.reads)))))
 
-pub bracketed-returns-then-leads_to-clause-binds : goal.bracketed-returns-then-leads_to-clause-binds
-bracketed-returns-then-leads_to-clause-binds t c =
+pub operands::bracketed-returns-then-leads_to-clause-binds : goal.operands::bracketed-returns-then-leads_to-clause-binds
+operands::bracketed-returns-then-leads_to-clause-binds t c =
     subst (λ (d : Expressions.ExpressionData). 11 ≤ binding d) (sym c.in_ok-cast_of.ensures) (omega arith)
 
-pub bracketed-returns-then-leads_to-clause-grouped : goal.bracketed-returns-then-leads_to-clause-grouped
-bracketed-returns-then-leads_to-clause-grouped t c =
+pub operands::bracketed-returns-then-leads_to-clause-grouped : goal.operands::bracketed-returns-then-leads_to-clause-grouped
+operands::bracketed-returns-then-leads_to-clause-grouped t c =
     subst IsGrouped (sym c.in_ok-cast_of.ensures) (c.in_ok-type_name.ensures.grouped, c.in_ok-operand.ensures.binds, c.in_ok-operand.ensures.grouped)
 
-pub bracketed-returns-clause-reads : goal.bracketed-returns-clause-reads
-bracketed-returns-clause-reads t c =
+pub operands::bracketed-returns-clause-reads : goal.operands::bracketed-returns-clause-reads
+operands::bracketed-returns-clause-reads t c =
     let inner = c.in_ok-parenthesized.ensures in
     subst (λ (d : Expressions.ExpressionData). Reads (spelled.expression d) c.args.reader.now c.postfixes.new.reader) (sym c.in_ok-postfix_of.ensures)
     (subst (λ (ps : List Piece). Reads ps c.args.reader.now c.postfixes.new.reader) (sym (spelled_postfixed (expression_view c.in_ok-parenthesized.parenthesized) _))
@@ -184,35 +184,35 @@ bracketed-returns-clause-reads t c =
     (followed (placeless (followed c.in_ok-place.ensures.reads c.place.ensures.same (into c.leads_to.ensures.same c.in_ok-leads_to.ensures.rest (followed c.in_ok-inner.ensures.reads c.conditional.ensures.same (c.in_ok-pass.ensures.reads)))))
     (c.pass.ensures.same ∙ c.conditional.ensures.same ∙ c.leads_to.ensures.same ∙ c.place.ensures.same) c.in_ok-postfixes.ensures.reads)))
 
-pub bracketed-returns-clause-binds : goal.bracketed-returns-clause-binds
-bracketed-returns-clause-binds t c =
+pub operands::bracketed-returns-clause-binds : goal.operands::bracketed-returns-clause-binds
+operands::bracketed-returns-clause-binds t c =
     subst (λ (d : Expressions.ExpressionData). 11 ≤ binding d) (sym c.in_ok-postfix_of.ensures)
     (postfixed_binds (expression_view c.in_ok-parenthesized.parenthesized) _ (subst (λ (d : Expressions.ExpressionData). 13 ≤ binding d) (sym c.in_ok-parenthesized.ensures) (omega arith)))
 
-pub bracketed-returns-clause-grouped : goal.bracketed-returns-clause-grouped
-bracketed-returns-clause-grouped t c =
+pub operands::bracketed-returns-clause-grouped : goal.operands::bracketed-returns-clause-grouped
+operands::bracketed-returns-clause-grouped t c =
     subst IsGrouped (sym c.in_ok-postfix_of.ensures)
     (postfixed_grouped (expression_view c.in_ok-parenthesized.parenthesized) _ (subst (λ (d : Expressions.ExpressionData). 13 ≤ binding d) (sym c.in_ok-parenthesized.ensures) (omega arith))
     (subst IsGrouped (sym c.in_ok-parenthesized.ensures) c.in_ok-inner.ensures.grouped) c.in_ok-postfixes.ensures.grouped)
 
-pub primary-returns-clause-reads : goal.primary-returns-clause-reads
-primary-returns-clause-reads t c =
+pub operands::primary-returns-clause-reads : goal.operands::primary-returns-clause-reads
+operands::primary-returns-clause-reads t c =
     subst (λ (d : Expressions.ExpressionData). Reads (spelled.expression d) c.args.reader.now c.postfixes.new.reader) (sym c.in_ok-postfix_of.ensures)
     (subst (λ (ps : List Piece). Reads ps c.args.reader.now c.postfixes.new.reader) (sym (spelled_postfixed (expression_view c.in_ok-operand.operand) _))
     (followed c.in_ok-operand.ensures.reads c.primary_word.ensures.same c.in_ok-postfixes.ensures.reads))
 
-pub primary-returns-clause-binds : goal.primary-returns-clause-binds
-primary-returns-clause-binds t c =
+pub operands::primary-returns-clause-binds : goal.operands::primary-returns-clause-binds
+operands::primary-returns-clause-binds t c =
     subst (λ (d : Expressions.ExpressionData). 11 ≤ binding d) (sym c.in_ok-postfix_of.ensures)
     (postfixed_binds (expression_view c.in_ok-operand.operand) _ c.in_ok-operand.ensures.binds)
 
-pub primary-returns-clause-grouped : goal.primary-returns-clause-grouped
-primary-returns-clause-grouped t c =
+pub operands::primary-returns-clause-grouped : goal.operands::primary-returns-clause-grouped
+operands::primary-returns-clause-grouped t c =
     subst IsGrouped (sym c.in_ok-postfix_of.ensures)
     (postfixed_grouped (expression_view c.in_ok-operand.operand) _ c.in_ok-operand.ensures.binds c.in_ok-operand.ensures.grouped c.in_ok-postfixes.ensures.grouped)
 
-pub postfixes-loop-postfixes-preserved : goal.postfixes-loop-postfixes-preserved
-postfixes-loop-postfixes-preserved t c =
+pub operands::postfixes-loop-postfixes-preserved : goal.operands::postfixes-loop-postfixes-preserved
+operands::postfixes-loop-postfixes-preserved t c =
     let fewer = c.in_ok-postfix.ensures.shorter in
     let same_rest = ap length c.in_ok-option.ensures.rest in
     let before = c.loop-postfixes.invariant.shorter in
@@ -229,76 +229,76 @@ postfixes-loop-postfixes-preserved t c =
           (followed (up_to c.loop-postfixes.invariant.reads c.in_ok-option.ensures.rest) (c.option.ensures.same ∙ c.loop-postfixes.invariant.same) c.in_ok-postfix.ensures.reads);
     }
 
-pub index-returns-clause-reads : goal.index-returns-clause-reads
-index-returns-clause-reads t c =
+pub operands::index-returns-clause-reads : goal.operands::index-returns-clause-reads
+operands::index-returns-clause-reads t c =
     subst (λ (d : Expressions.PostfixData). Reads (spelled.postfix d) c.args.reader.now c.pass.new.self) (sym c.in_ok-index_of.ensures)
     (followed c.in_ok-place.ensures.reads c.place.ensures.same (followed c.in_ok-index.ensures.reads c.conditional.ensures.same (c.in_ok-pass.ensures.reads)))
 
-pub index-returns-clause-grouped : goal.index-returns-clause-grouped
-index-returns-clause-grouped t c =
+pub operands::index-returns-clause-grouped : goal.operands::index-returns-clause-grouped
+operands::index-returns-clause-grouped t c =
     subst IsPostfix (sym c.in_ok-index_of.ensures) c.in_ok-index.ensures.grouped
 
-pub call-returns-clause-reads : goal.call-returns-clause-reads
-call-returns-clause-reads t c =
+pub operands::call-returns-clause-reads : goal.operands::call-returns-clause-reads
+operands::call-returns-clause-reads t c =
     subst (λ (d : Expressions.PostfixData). Reads (spelled.postfix d) c.args.reader.now c.pass.new.self) (sym c.call_of.ensures)
     (followed c.in_ok-place.ensures.reads c.place.ensures.same (followed c.in_ok-arguments.ensures.reads c.arguments.ensures.same (c.in_ok-pass.ensures.reads)))
 
-pub call-returns-clause-grouped : goal.call-returns-clause-grouped
-call-returns-clause-grouped t c =
+pub operands::call-returns-clause-grouped : goal.operands::call-returns-clause-grouped
+operands::call-returns-clause-grouped t c =
     subst IsPostfix (sym c.call_of.ensures) c.in_ok-arguments.ensures.grouped
 
-pub type_name-returns-clause-reads : goal.type_name-returns-clause-reads
-type_name-returns-clause-reads t c =
+pub specifier::type_name-returns-clause-reads : goal.specifier::type_name-returns-clause-reads
+specifier::type_name-returns-clause-reads t c =
     subst (λ (d : Expressions.TypeNameData). Reads (spelled.type_name d) c.args.reader.now c.pointers.new.reader) (sym c.type_name_of.ensures)
     (into c.open.ensures.same c.in_ok-open.ensures.rest (followed c.in_ok-specifiers.ensures.reads c.specifiers.ensures.same (c.in_ok-pointers.ensures.reads)))
 
-pub type_name-returns-clause-grouped : goal.type_name-returns-clause-grouped
-type_name-returns-clause-grouped t c =
+pub specifier::type_name-returns-clause-grouped : goal.specifier::type_name-returns-clause-grouped
+specifier::type_name-returns-clause-grouped t c =
     subst IsGroupedType (sym c.type_name_of.ensures) c.in_ok-specifiers.ensures.grouped
 
-pub structure-returns-clause-reads : goal.structure-returns-clause-reads
-structure-returns-clause-reads t c =
+pub specifier::structure-returns-clause-reads : goal.specifier::structure-returns-clause-reads
+specifier::structure-returns-clause-reads t c =
     subst (λ (d : Expressions.SpecifierData). Reads (spelled.specifier d) c.args.reader.now c.option.new.self) (sym c.struct_reference_of.ensures)
     (followed c.in_ok-place.ensures.reads c.place.ensures.same (into c.leads_to.ensures.same c.in_ok-leads_to.ensures.rest (up_to c.in_ok-tag.ensures.reads c.in_ok-option.ensures.rest)))
 
-pub structure-returns-clause-grouped : goal.structure-returns-clause-grouped
-structure-returns-clause-grouped t c =
+pub specifier::structure-returns-clause-grouped : goal.specifier::structure-returns-clause-grouped
+specifier::structure-returns-clause-grouped t c =
     subst IsSpecifier (sym c.struct_reference_of.ensures) tt
 
-pub enumeration-returns-clause-reads : goal.enumeration-returns-clause-reads
-enumeration-returns-clause-reads t c =
+pub specifier::enumeration-returns-clause-reads : goal.specifier::enumeration-returns-clause-reads
+specifier::enumeration-returns-clause-reads t c =
     subst (λ (d : Expressions.SpecifierData). Reads (spelled.specifier d) c.args.reader.now c.option.new.self) (sym c.enum_reference_of.ensures)
     (followed c.in_ok-place.ensures.reads c.place.ensures.same (into c.leads_to.ensures.same c.in_ok-leads_to.ensures.rest (up_to c.in_ok-tag.ensures.reads c.in_ok-option.ensures.rest)))
 
-pub enumeration-returns-clause-grouped : goal.enumeration-returns-clause-grouped
-enumeration-returns-clause-grouped t c =
+pub specifier::enumeration-returns-clause-grouped : goal.specifier::enumeration-returns-clause-grouped
+specifier::enumeration-returns-clause-grouped t c =
     subst IsSpecifier (sym c.enum_reference_of.ensures) tt
 
-pub member_declaration-returns-clause-reads : goal.member_declaration-returns-clause-reads
-member_declaration-returns-clause-reads t c =
+pub structures::member_declaration-returns-clause-reads : goal.structures::member_declaration-returns-clause-reads
+structures::member_declaration-returns-clause-reads t c =
     subst (λ (m : OneMember). Reads (spelled.members (members_of (m ∷ []))) c.args.reader.now c.pass.new.self) (sym c.members_of_type.ensures)
     (followed c.in_ok-specifiers.ensures.reads c.specifiers.ensures.same (followed c.in_ok-declarators.ensures.reads c.member_declarators.ensures.same (c.in_ok-pass.ensures.reads)))
 
-pub member_declaration-returns-clause-grouped : goal.member_declaration-returns-clause-grouped
-member_declaration-returns-clause-grouped t c =
+pub structures::member_declaration-returns-clause-grouped : goal.structures::member_declaration-returns-clause-grouped
+structures::member_declaration-returns-clause-grouped t c =
     subst (λ (m : OneMember). AreMembers (members_of (m ∷ []))) (sym c.members_of_type.ensures)
     (c.in_ok-specifiers.ensures.grouped.0, c.in_ok-specifiers.ensures.grouped.1, c.in_ok-declarators.ensures.some, c.in_ok-declarators.ensures.sized, c.in_ok-declarators.ensures.grouped, tt)
 
-pub member-returns-clause-reads : goal.member-returns-clause-reads
-member-returns-clause-reads t c =
+pub structures::member-returns-clause-reads : goal.structures::member-returns-clause-reads
+structures::member-returns-clause-reads t c =
     subst (λ (d : Expressions.DeclaratorData). Reads (spelled.declarator d) c.args.reader.now c.member_bounds.new.reader) (sym c.declarator_of.ensures)
     (into c.open.ensures.same c.in_ok-open.ensures.rest (followed c.in_ok-pointers.ensures.reads c.pointers.ensures.same (followed c.in_ok-name.ensures.reads c.word.ensures.same (c.in_ok-bounds.ensures.reads))))
 
-pub member-returns-clause-sized : goal.member-returns-clause-sized
-member-returns-clause-sized t c =
+pub structures::member-returns-clause-sized : goal.structures::member-returns-clause-sized
+structures::member-returns-clause-sized t c =
     subst IsSized (sym c.declarator_of.ensures) c.in_ok-bounds.ensures.sized
 
-pub member-returns-clause-grouped : goal.member-returns-clause-grouped
-member-returns-clause-grouped t c =
+pub structures::member-returns-clause-grouped : goal.structures::member-returns-clause-grouped
+structures::member-returns-clause-grouped t c =
     subst IsDeclarator (sym c.declarator_of.ensures) c.in_ok-bounds.ensures.grouped
 
-pub member_bounds-loop-bounds-preserved : goal.member_bounds-loop-bounds-preserved
-member_bounds-loop-bounds-preserved t c =
+pub structures::member_bounds-loop-bounds-preserved : goal.structures::member_bounds-loop-bounds-preserved
+structures::member_bounds-loop-bounds-preserved t c =
     let fewer = c.in_ok-next.ensures.shorter in
     let same_rest = ap length c.in_ok-option.ensures.rest in
     let before = c.loop-bounds.invariant.shorter in
@@ -316,21 +316,21 @@ member_bounds-loop-bounds-preserved t c =
           (followed (up_to c.loop-bounds.invariant.reads c.in_ok-option.ensures.rest) (c.option.ensures.same ∙ c.loop-bounds.invariant.same) c.in_ok-next.ensures.reads);
     }
 
-pub member_bound-returns-clause-reads : goal.member_bound-returns-clause-reads
-member_bound-returns-clause-reads t c =
+pub structures::member_bound-returns-clause-reads : goal.structures::member_bound-returns-clause-reads
+structures::member_bound-returns-clause-reads t c =
     subst (λ (d : Expressions.BoundData). Reads (spelled.bound d) c.args.reader.now c.place.new.self) (sym c.in_ok-bound_of.ensures)
     (followed c.in_ok-pass.ensures.reads c.pass.ensures.same (followed c.in_ok-size.ensures.reads c.conditional.ensures.same (c.in_ok-close.ensures.reads)))
 
-pub member_bound-returns-clause-sized : goal.member_bound-returns-clause-sized
-member_bound-returns-clause-sized t c =
+pub structures::member_bound-returns-clause-sized : goal.structures::member_bound-returns-clause-sized
+structures::member_bound-returns-clause-sized t c =
     subst HasSize (sym c.in_ok-bound_of.ensures) tt
 
-pub member_bound-returns-clause-grouped : goal.member_bound-returns-clause-grouped
-member_bound-returns-clause-grouped t c =
+pub structures::member_bound-returns-clause-grouped : goal.structures::member_bound-returns-clause-grouped
+structures::member_bound-returns-clause-grouped t c =
     subst IsBound (sym c.in_ok-bound_of.ensures) c.in_ok-size.ensures.grouped
 
-pub structure_body-loop-members-preserved : goal.structure_body-loop-members-preserved
-structure_body-loop-members-preserved t c =
+pub structures::structure_body-loop-members-preserved : goal.structures::structure_body-loop-members-preserved
+structures::structure_body-loop-members-preserved t c =
     let fewer = c.in_ok-next.ensures.shorter in
     let same_rest = ap length c.in_ok-option.ensures.rest in
     let before = c.loop-members.invariant.shorter in
@@ -346,8 +346,8 @@ structure_body-loop-members-preserved t c =
           (followed (up_to c.loop-members.invariant.reads c.in_ok-option.ensures.rest) (c.option.ensures.same ∙ c.loop-members.invariant.same) c.in_ok-next.ensures.reads);
     }
 
-pub arguments-loop-arguments-init : goal.arguments-loop-arguments-init
-arguments-loop-arguments-init t c =
+pub operands::arguments-loop-arguments-init : goal.operands::arguments-loop-arguments-init
+operands::arguments-loop-arguments-init t c =
     record {
       same = search rules;
       next = search rules;
@@ -359,8 +359,8 @@ arguments-loop-arguments-init t c =
           (search rules);
     }
 
-pub arguments-loop-arguments-preserved : goal.arguments-loop-arguments-preserved
-arguments-loop-arguments-preserved t c =
+pub operands::arguments-loop-arguments-preserved : goal.operands::arguments-loop-arguments-preserved
+operands::arguments-loop-arguments-preserved t c =
     let fewer = c.in_ok-next.ensures.shorter in
     let same_rest = ap length c.in_ok-option-in-loop-arguments.ensures.rest in
     let before = c.loop-arguments.invariant.shorter in
@@ -378,8 +378,8 @@ arguments-loop-arguments-preserved t c =
           (followed (up_to c.loop-arguments.invariant.reads c.in_ok-option-in-loop-arguments.ensures.rest) (c.option-in-loop-arguments.ensures.same ∙ c.loop-arguments.invariant.same) (followed c.in_ok-pass.ensures.reads c.pass.ensures.same c.in_ok-next.ensures.reads));
     }
 
-pub specifiers-loop-specifiers-init : goal.specifiers-loop-specifiers-init
-specifiers-loop-specifiers-init t c =
+pub specifier::specifiers-loop-specifiers-init : goal.specifier::specifiers-loop-specifiers-init
+specifier::specifiers-loop-specifiers-init t c =
     record {
       same = search rules;
       next = search rules;
@@ -391,8 +391,8 @@ specifiers-loop-specifiers-init t c =
           (search rules);
     }
 
-pub specifiers-loop-specifiers-preserved : goal.specifiers-loop-specifiers-preserved
-specifiers-loop-specifiers-preserved t c =
+pub specifier::specifiers-loop-specifiers-preserved : goal.specifier::specifiers-loop-specifiers-preserved
+specifier::specifiers-loop-specifiers-preserved t c =
     let fewer = c.in_ok-next.ensures.shorter in
     let same_rest = ap length c.in_ok-option.ensures.rest in
     let before = c.loop-specifiers.invariant.shorter in
@@ -410,8 +410,8 @@ specifiers-loop-specifiers-preserved t c =
           (followed (up_to c.loop-specifiers.invariant.reads c.in_ok-option.ensures.rest) (c.option.ensures.same ∙ c.loop-specifiers.invariant.same) (c.in_ok-next.ensures.reads));
     }
 
-pub member_declarators-loop-declarators-init : goal.member_declarators-loop-declarators-init
-member_declarators-loop-declarators-init t c =
+pub structures::member_declarators-loop-declarators-init : goal.structures::member_declarators-loop-declarators-init
+structures::member_declarators-loop-declarators-init t c =
     record {
       same = search rules;
       next = search rules;
@@ -424,8 +424,8 @@ member_declarators-loop-declarators-init t c =
           (search rules);
     }
 
-pub member_declarators-loop-declarators-preserved : goal.member_declarators-loop-declarators-preserved
-member_declarators-loop-declarators-preserved t c =
+pub structures::member_declarators-loop-declarators-preserved : goal.structures::member_declarators-loop-declarators-preserved
+structures::member_declarators-loop-declarators-preserved t c =
     let fewer = c.in_ok-next.ensures.shorter in
     let same_rest = ap length c.in_ok-option.ensures.rest in
     let before = c.loop-declarators.invariant.shorter in
@@ -445,60 +445,60 @@ member_declarators-loop-declarators-preserved t c =
           (followed (up_to c.loop-declarators.invariant.reads c.in_ok-option.ensures.rest) (c.option.ensures.same ∙ c.loop-declarators.invariant.same) (followed c.in_ok-pass.ensures.reads c.pass.ensures.same c.in_ok-next.ensures.reads));
     }
 
-pub specifiers-returns-clause-grouped : goal.specifiers-returns-clause-grouped
-specifiers-returns-clause-grouped t c =
+pub specifier::specifiers-returns-clause-grouped : goal.specifier::specifiers-returns-clause-grouped
+specifier::specifiers-returns-clause-grouped t c =
     (has_specifier (map specifier_view c.loop-specifiers.specifiers.items) (some_seen specifier_view _ c.loop-specifiers.invariant.some), c.loop-specifiers.invariant.grouped)
 
-pub member_declarators-returns-clause-some : goal.member_declarators-returns-clause-some
-member_declarators-returns-clause-some t c =
+pub structures::member_declarators-returns-clause-some : goal.structures::member_declarators-returns-clause-some
+structures::member_declarators-returns-clause-some t c =
     has_declarator (map declarator_view c.loop-declarators.declarators.items) (some_seen declarator_view _ c.loop-declarators.invariant.some)
 
 pub specifier-keyword-keyword-requires : goal.specifier-keyword-keyword-requires
 specifier-keyword-keyword-requires t c =
     let found = keyword_found c.in_ok-first.first c.in_ok-first.ensures.one c.in_default.not-STRUCT c.in_default.not-ENUM c.in_default.not-LIBRARY_TYPE c.in_default.not-TYPEDEF_NAME in (found.0, found.1)
 
-pub specifier-word-requires-in_default : goal.specifier-word-requires-in_default
-specifier-word-requires-in_default t c =
+pub specifier::specifier-word-requires-in_default : goal.specifier::specifier-word-requires-in_default
+specifier::specifier-word-requires-in_default t c =
     let found = keyword_found c.in_ok-first.first c.in_ok-first.ensures.one c.in_default.not-STRUCT c.in_default.not-ENUM c.in_default.not-LIBRARY_TYPE c.in_default.not-TYPEDEF_NAME in
     let chosen = ap (λ (s : State). s.pending) c.in_ok-first.ensures.moved ∙ ap (λ (xs : List ℕ). xs ++ drop 1 c.args.reader.now.pending) found.2 in
     ap (take 1) chosen ∙ ap (λ (n : ℕ). n ∷ []) c.keyword-keyword.ensures ∙ ap (λ (k : TokenClass). class_number k ∷ []) (sym c.keyword_class.ensures)
 
-pub specifier-returns-in_default-clause-next : goal.specifier-returns-in_default-clause-next
-specifier-returns-in_default-clause-next t c =
+pub specifier::specifier-returns-in_default-clause-next : goal.specifier::specifier-returns-in_default-clause-next
+specifier::specifier-returns-in_default-clause-next t c =
     let found = keyword_found c.in_ok-first.first c.in_ok-first.ensures.one c.in_default.not-STRUCT c.in_default.not-ENUM c.in_default.not-LIBRARY_TYPE c.in_default.not-TYPEDEF_NAME in
     let chosen = ap (λ (s : State). s.pending) c.in_ok-first.ensures.moved ∙ ap (λ (xs : List ℕ). xs ++ drop 1 c.args.reader.now.pending) found.2 in
     c.in_ok-word.ensures.next ∙ ap (drop 1) chosen
 
-pub specifier-returns-in_default-clause-reads : goal.specifier-returns-in_default-clause-reads
-specifier-returns-in_default-clause-reads t c =
+pub specifier::specifier-returns-in_default-clause-reads : goal.specifier::specifier-returns-in_default-clause-reads
+specifier::specifier-returns-in_default-clause-reads t c =
     subst (λ (d : Expressions.SpecifierData). Reads (spelled.specifier d) c.args.reader.now c.word.new.self) (sym c.keyword_of.ensures)
     (subst (λ (k : TokenClass). Reads (word k c.in_ok-word.word ∷ []) c.args.reader.now c.word.new.self) c.keyword_class.ensures
     (into c.choose.ensures.same c.in_ok-first.ensures.rest c.in_ok-word.ensures.reads))
 
-pub specifier-returns-in-LIBRARY_TYPE-clause-reads : goal.specifier-returns-in-LIBRARY_TYPE-clause-reads
-specifier-returns-in-LIBRARY_TYPE-clause-reads t c =
+pub specifier::specifier-returns-in-LIBRARY_TYPE-clause-reads : goal.specifier::specifier-returns-in-LIBRARY_TYPE-clause-reads
+specifier::specifier-returns-in-LIBRARY_TYPE-clause-reads t c =
     subst (λ (d : Expressions.SpecifierData). Reads (spelled.specifier d) c.args.reader.now c.word.new.self) (sym c.library_type_of.ensures)
     (into c.choose.ensures.same c.in_ok-first.ensures.rest c.in_ok-word.ensures.reads)
 
-pub specifier-returns-in-TYPEDEF_NAME-clause-reads : goal.specifier-returns-in-TYPEDEF_NAME-clause-reads
-specifier-returns-in-TYPEDEF_NAME-clause-reads t c =
+pub specifier::specifier-returns-in-TYPEDEF_NAME-clause-reads : goal.specifier::specifier-returns-in-TYPEDEF_NAME-clause-reads
+specifier::specifier-returns-in-TYPEDEF_NAME-clause-reads t c =
     subst (λ (d : Expressions.SpecifierData). Reads (spelled.specifier d) c.args.reader.now c.word.new.self) (sym c.typedef_name_of.ensures)
     (into c.choose.ensures.same c.in_ok-first.ensures.rest c.in_ok-word.ensures.reads)
 
-pub specifier-returns-in-LIBRARY_TYPE-clause-grouped : goal.specifier-returns-in-LIBRARY_TYPE-clause-grouped
-specifier-returns-in-LIBRARY_TYPE-clause-grouped t c =
+pub specifier::specifier-returns-in-LIBRARY_TYPE-clause-grouped : goal.specifier::specifier-returns-in-LIBRARY_TYPE-clause-grouped
+specifier::specifier-returns-in-LIBRARY_TYPE-clause-grouped t c =
     subst IsSpecifier (sym c.library_type_of.ensures) tt
 
-pub specifier-returns-in-TYPEDEF_NAME-clause-grouped : goal.specifier-returns-in-TYPEDEF_NAME-clause-grouped
-specifier-returns-in-TYPEDEF_NAME-clause-grouped t c =
+pub specifier::specifier-returns-in-TYPEDEF_NAME-clause-grouped : goal.specifier::specifier-returns-in-TYPEDEF_NAME-clause-grouped
+specifier::specifier-returns-in-TYPEDEF_NAME-clause-grouped t c =
     subst IsSpecifier (sym c.typedef_name_of.ensures) tt
 
-pub specifier-returns-in_default-clause-grouped : goal.specifier-returns-in_default-clause-grouped
-specifier-returns-in_default-clause-grouped t c =
+pub specifier::specifier-returns-in_default-clause-grouped : goal.specifier::specifier-returns-in_default-clause-grouped
+specifier::specifier-returns-in_default-clause-grouped t c =
     subst IsSpecifier (sym c.keyword_of.ensures) tt
 
-pub structure_body-returns-clause-reads : goal.structure_body-returns-clause-reads
-structure_body-returns-clause-reads t c =
+pub structures::structure_body-returns-clause-reads : goal.structures::structure_body-returns-clause-reads
+structures::structure_body-returns-clause-reads t c =
     record {
       behind = any T.LeftBrace ∷ spelled.members (members_of (map member_view c.loop-members.members.items)) ++ at T.RightBrace c.in_ok-close.close ∷ [];
       is = ap spelled.specifier c.struct_declaration_of.ensures;
@@ -506,49 +506,49 @@ structure_body-returns-clause-reads t c =
           (followed (up_to c.loop-members.invariant.reads c.in_ok-option.ensures.rest) (c.option.ensures.same ∙ c.loop-members.invariant.same) c.in_ok-close.ensures.reads);
     }
 
-pub structure_body-returns-clause-grouped : goal.structure_body-returns-clause-grouped
-structure_body-returns-clause-grouped t c =
+pub structures::structure_body-returns-clause-grouped : goal.structures::structure_body-returns-clause-grouped
+structures::structure_body-returns-clause-grouped t c =
     subst IsSpecifier (sym c.struct_declaration_of.ensures) c.loop-members.invariant.grouped
 
-pub enumeration_body-returns-clause-reads : goal.enumeration_body-returns-clause-reads
-enumeration_body-returns-clause-reads t c =
+pub enumerations::enumeration_body-returns-clause-reads : goal.enumerations::enumeration_body-returns-clause-reads
+enumerations::enumeration_body-returns-clause-reads t c =
     record {
       behind = any T.LeftBrace ∷ spelled.enumerators (enumerators_of (map enumerator_view c.loop-after.enumerators.items)) ++ spelled.trailing (is_trailing c.loop-after.after) ++ at T.RightBrace c.in_ok-close.close ∷ [];
       is = ap spelled.specifier c.enum_declaration_of.ensures;
       reads = trailing_read c.loop-after.after (any T.LeftBrace) (spelled.enumerators (enumerators_of (map enumerator_view c.loop-after.enumerators.items))) c.loop-after-test.false c.loop-after.invariant.reads c.loop-after.invariant.same c.in_ok-close.ensures.reads;
     }
 
-pub enumeration_body-returns-clause-grouped : goal.enumeration_body-returns-clause-grouped
-enumeration_body-returns-clause-grouped t c =
+pub enumerations::enumeration_body-returns-clause-grouped : goal.enumerations::enumeration_body-returns-clause-grouped
+enumerations::enumeration_body-returns-clause-grouped t c =
     subst IsSpecifier (sym c.enum_declaration_of.ensures)
     (has_enumerator (map enumerator_view c.loop-after.enumerators.items) (some_seen enumerator_view _ c.loop-after.invariant.some), c.loop-after.invariant.grouped)
 
-pub enumerator-returns-then-not-branch-clause-reads : goal.enumerator-returns-then-not-branch-clause-reads
-enumerator-returns-then-not-branch-clause-reads t c =
+pub enumerations::enumerator-returns-then-not-branch-clause-reads : goal.enumerations::enumerator-returns-then-not-branch-clause-reads
+enumerations::enumerator-returns-then-not-branch-clause-reads t c =
     subst (λ (e : OneEnumerator). Reads (spelled.enumerators (enumerators_of (e ∷ []))) c.args.reader.now c.option.new.self) (sym c.in_ok-enumerator_of.ensures)
     (up_to c.in_ok-name.ensures.reads c.in_ok-option.ensures.rest)
 
-pub enumerator-returns-clause-reads : goal.enumerator-returns-clause-reads
-enumerator-returns-clause-reads t c =
+pub enumerations::enumerator-returns-clause-reads : goal.enumerations::enumerator-returns-clause-reads
+enumerations::enumerator-returns-clause-reads t c =
     subst (λ (e : OneEnumerator). Reads (spelled.enumerators (enumerators_of (e ∷ []))) c.args.reader.now c.conditional.new.reader) (sym c.in_ok-enumerator_of-2.ensures)
     (subst (λ (ps : List Piece). Reads ps c.args.reader.now c.conditional.new.reader) (sym (append-nil _))
     (followed c.in_ok-name.ensures.reads c.word.ensures.same (into c.option.ensures.same c.in_ok-option.ensures.rest
     (followed c.in_ok-pass.ensures.reads c.pass.ensures.same c.in_ok-value.ensures.reads))))
 
-pub enumerator-returns-clause-grouped : goal.enumerator-returns-clause-grouped
-enumerator-returns-clause-grouped t c =
+pub enumerations::enumerator-returns-clause-grouped : goal.enumerations::enumerator-returns-clause-grouped
+enumerations::enumerator-returns-clause-grouped t c =
     subst (λ (e : OneEnumerator). AreEnumerators (enumerators_of (e ∷ []))) (sym c.in_ok-enumerator_of-2.ensures) (c.in_ok-value.ensures.grouped, tt)
 
-pub structure-returns-then-not-leads_to-clause-reads : goal.structure-returns-then-not-leads_to-clause-reads
-structure-returns-then-not-leads_to-clause-reads t c =
+pub specifier::structure-returns-then-not-leads_to-clause-reads : goal.specifier::structure-returns-then-not-leads_to-clause-reads
+specifier::structure-returns-then-not-leads_to-clause-reads t c =
     behind_read c.structure_body.result.ensures.reads (into c.leads_to.ensures.same c.in_ok-leads_to.ensures.rest c.in_ok-place.ensures.reads) (c.leads_to.ensures.same ∙ c.place.ensures.same)
 
-pub enumeration-returns-then-not-leads_to-clause-reads : goal.enumeration-returns-then-not-leads_to-clause-reads
-enumeration-returns-then-not-leads_to-clause-reads t c =
+pub specifier::enumeration-returns-then-not-leads_to-clause-reads : goal.specifier::enumeration-returns-then-not-leads_to-clause-reads
+specifier::enumeration-returns-then-not-leads_to-clause-reads t c =
     behind_read c.enumeration_body.result.ensures.reads (into c.leads_to.ensures.same c.in_ok-leads_to.ensures.rest c.in_ok-place.ensures.reads) (c.leads_to.ensures.same ∙ c.place.ensures.same)
 
-pub enumeration_body-loop-after-init : goal.enumeration_body-loop-after-init
-enumeration_body-loop-after-init t c =
+pub enumerations::enumeration_body-loop-after-init : goal.enumerations::enumeration_body-loop-after-init
+enumerations::enumeration_body-loop-after-init t c =
     let brace = c.in_ok-pass.ensures.shorter in
     let fewer = c.in_ok-first.ensures.shorter in
     let behind = c.in_ok-after.ensures.shorter in
@@ -566,8 +566,8 @@ enumeration_body-loop-after-init t c =
           (into c.open.ensures.same c.in_ok-open.ensures.rest (followed c.in_ok-pass.ensures.reads c.pass.ensures.same (followed c.in_ok-first.ensures.reads c.enumerator.ensures.same c.in_ok-after.ensures.reads)));
     }
 
-pub enumeration_body-loop-after-preserved : goal.enumeration_body-loop-after-preserved
-enumeration_body-loop-after-preserved t c =
+pub enumerations::enumeration_body-loop-after-preserved : goal.enumerations::enumeration_body-loop-after-preserved
+enumerations::enumeration_body-loop-after-preserved t c =
     let is_another : c.loop-after.after ≡ Another = search rules in
     let fewer = c.in_ok-next.ensures.shorter in
     let before = c.loop-after.invariant.shorter in

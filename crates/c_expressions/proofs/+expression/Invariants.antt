@@ -14,86 +14,86 @@ use Rattle.c_expressions.specs.Parts.{comma_pieces, after_next}
 use Rattle.c_expressions.proofs.Levels.{rank, operand_rank}
 use Rattle.c_expressions.proofs.+expression.Given as goal
 
-abbrev pub decreases-conditional : goal.decreases-conditional
-decreases-conditional l = length l.reader.now.rest * 64 + 40
+abbrev pub decreases-expressions::conditional : goal.decreases-expressions::conditional
+decreases-expressions::conditional l = length l.reader.now.rest * 64 + 40
 
-abbrev pub decreases-binary : goal.decreases-binary
-decreases-binary l = length l.reader.now.rest * 64 + rank l.level
+abbrev pub decreases-expressions::binary : goal.decreases-expressions::binary
+decreases-expressions::binary l = length l.reader.now.rest * 64 + rank l.level
 
-abbrev pub decreases-operand : goal.decreases-operand
-decreases-operand l = length l.reader.now.rest * 64 + operand_rank l.level
+abbrev pub decreases-expressions::operand : goal.decreases-expressions::operand
+decreases-expressions::operand l = length l.reader.now.rest * 64 + operand_rank l.level
 
-abbrev pub decreases-unary : goal.decreases-unary
-decreases-unary l = length l.reader.now.rest * 64 + 10
+abbrev pub decreases-operands::unary : goal.decreases-operands::unary
+decreases-operands::unary l = length l.reader.now.rest * 64 + 10
 
-abbrev pub decreases-prefixed : goal.decreases-prefixed
-decreases-prefixed l = length l.reader.now.rest * 64 + 9
+abbrev pub decreases-operands::prefixed : goal.decreases-operands::prefixed
+decreases-operands::prefixed l = length l.reader.now.rest * 64 + 9
 
-abbrev pub decreases-size_of : goal.decreases-size_of
-decreases-size_of l = length l.reader.now.rest * 64 + 9
+abbrev pub decreases-operands::size_of : goal.decreases-operands::size_of
+decreases-operands::size_of l = length l.reader.now.rest * 64 + 9
 
-abbrev pub decreases-bracketed : goal.decreases-bracketed
-decreases-bracketed l = length l.reader.now.rest * 64 + 9
+abbrev pub decreases-operands::bracketed : goal.decreases-operands::bracketed
+decreases-operands::bracketed l = length l.reader.now.rest * 64 + 9
 
-abbrev pub decreases-primary : goal.decreases-primary
-decreases-primary l = length l.reader.now.rest * 64 + 9
+abbrev pub decreases-operands::primary : goal.decreases-operands::primary
+decreases-operands::primary l = length l.reader.now.rest * 64 + 9
 
-abbrev pub decreases-postfixes : goal.decreases-postfixes
-decreases-postfixes l = length l.reader.now.rest * 64 + 8
+abbrev pub decreases-operands::postfixes : goal.decreases-operands::postfixes
+decreases-operands::postfixes l = length l.reader.now.rest * 64 + 8
 
-abbrev pub decreases-postfix : goal.decreases-postfix
-decreases-postfix l = length l.reader.now.rest * 64 + 7
+abbrev pub decreases-operands::postfix : goal.decreases-operands::postfix
+decreases-operands::postfix l = length l.reader.now.rest * 64 + 7
 
-abbrev pub decreases-index : goal.decreases-index
-decreases-index l = length l.reader.now.rest * 64 + 6
+abbrev pub decreases-operands::index : goal.decreases-operands::index
+decreases-operands::index l = length l.reader.now.rest * 64 + 6
 
-abbrev pub decreases-call : goal.decreases-call
-decreases-call l = length l.reader.now.rest * 64 + 6
+abbrev pub decreases-operands::call : goal.decreases-operands::call
+decreases-operands::call l = length l.reader.now.rest * 64 + 6
 
-abbrev pub decreases-arguments : goal.decreases-arguments
-decreases-arguments l = length l.reader.now.rest * 64 + 41
+abbrev pub decreases-operands::arguments : goal.decreases-operands::arguments
+decreases-operands::arguments l = length l.reader.now.rest * 64 + 41
 
-abbrev pub decreases-type_name : goal.decreases-type_name
-decreases-type_name l = length l.reader.now.rest * 64 + 45
+abbrev pub decreases-specifier::type_name : goal.decreases-specifier::type_name
+decreases-specifier::type_name l = length l.reader.now.rest * 64 + 45
 
-abbrev pub decreases-specifiers : goal.decreases-specifiers
-decreases-specifiers l = length l.reader.now.rest * 64 + 44
+abbrev pub decreases-specifier::specifiers : goal.decreases-specifier::specifiers
+decreases-specifier::specifiers l = length l.reader.now.rest * 64 + 44
 
-abbrev pub decreases-specifier : goal.decreases-specifier
-decreases-specifier l = length l.reader.now.rest * 64 + 43
+abbrev pub decreases-specifier::specifier : goal.decreases-specifier::specifier
+decreases-specifier::specifier l = length l.reader.now.rest * 64 + 43
 
-abbrev pub decreases-structure : goal.decreases-structure
-decreases-structure l = length l.reader.now.rest * 64 + 42
+abbrev pub decreases-specifier::structure : goal.decreases-specifier::structure
+decreases-specifier::structure l = length l.reader.now.rest * 64 + 42
 
-abbrev pub decreases-enumeration : goal.decreases-enumeration
-decreases-enumeration l = length l.reader.now.rest * 64 + 42
+abbrev pub decreases-specifier::enumeration : goal.decreases-specifier::enumeration
+decreases-specifier::enumeration l = length l.reader.now.rest * 64 + 42
 
-abbrev pub decreases-structure_body : goal.decreases-structure_body
-decreases-structure_body l = length l.reader.now.rest * 64 + 1
+abbrev pub decreases-structures::structure_body : goal.decreases-structures::structure_body
+decreases-structures::structure_body l = length l.reader.now.rest * 64 + 1
 
-abbrev pub decreases-member_declaration : goal.decreases-member_declaration
-decreases-member_declaration l = length l.reader.now.rest * 64 + 46
+abbrev pub decreases-structures::member_declaration : goal.decreases-structures::member_declaration
+decreases-structures::member_declaration l = length l.reader.now.rest * 64 + 46
 
-abbrev pub decreases-member_declarators : goal.decreases-member_declarators
-decreases-member_declarators l = length l.reader.now.rest * 64 + 48
+abbrev pub decreases-structures::member_declarators : goal.decreases-structures::member_declarators
+decreases-structures::member_declarators l = length l.reader.now.rest * 64 + 48
 
-abbrev pub decreases-member : goal.decreases-member
-decreases-member l = length l.reader.now.rest * 64 + 47
+abbrev pub decreases-structures::member : goal.decreases-structures::member
+decreases-structures::member l = length l.reader.now.rest * 64 + 47
 
-abbrev pub decreases-member_bounds : goal.decreases-member_bounds
-decreases-member_bounds l = length l.reader.now.rest * 64 + 50
+abbrev pub decreases-structures::member_bounds : goal.decreases-structures::member_bounds
+decreases-structures::member_bounds l = length l.reader.now.rest * 64 + 50
 
-abbrev pub decreases-member_bound : goal.decreases-member_bound
-decreases-member_bound l = length l.reader.now.rest * 64 + 49
+abbrev pub decreases-structures::member_bound : goal.decreases-structures::member_bound
+decreases-structures::member_bound l = length l.reader.now.rest * 64 + 49
 
-abbrev pub decreases-enumeration_body : goal.decreases-enumeration_body
-decreases-enumeration_body l = length l.reader.now.rest * 64 + 1
+abbrev pub decreases-enumerations::enumeration_body : goal.decreases-enumerations::enumeration_body
+decreases-enumerations::enumeration_body l = length l.reader.now.rest * 64 + 1
 
-abbrev pub decreases-enumerator : goal.decreases-enumerator
-decreases-enumerator l = length l.reader.now.rest * 64 + 1
+abbrev pub decreases-enumerations::enumerator : goal.decreases-enumerations::enumerator
+decreases-enumerations::enumerator l = length l.reader.now.rest * 64 + 1
 
-abbrev pub invariant-binary-loop-rest : goal.invariant-binary-loop-rest
-invariant-binary-loop-rest l = record {
+abbrev pub invariant-expressions::binary-loop-rest : goal.invariant-expressions::binary-loop-rest
+invariant-expressions::binary-loop-rest l = record {
   same : l.reader.source ≡ l.fn.reader.source;
   next : l.reader.pending ≡ left_side (more l.level) ∷ drop 1 l.fn.reader.pending;
   shorter : length l.reader.rest < length l.fn.reader.rest;
@@ -101,11 +101,11 @@ invariant-binary-loop-rest l = record {
   reads : Reads (spelled.expression (expression_view l.first) ++ spelled.operations (operations_of (map operation_view l.rest.items))) l.fn.reader l.reader;
 }
 
-abbrev pub decreases-binary-loop-rest : goal.decreases-binary-loop-rest
-decreases-binary-loop-rest l = length l.reader.rest
+abbrev pub decreases-expressions::binary-loop-rest : goal.decreases-expressions::binary-loop-rest
+decreases-expressions::binary-loop-rest l = length l.reader.rest
 
-abbrev pub invariant-postfixes-loop-postfixes : goal.invariant-postfixes-loop-postfixes
-invariant-postfixes-loop-postfixes l = record {
+abbrev pub invariant-operands::postfixes-loop-postfixes : goal.invariant-operands::postfixes-loop-postfixes
+invariant-operands::postfixes-loop-postfixes l = record {
   same : l.reader.source ≡ l.fn.reader.source;
   next : l.reader.pending ≡ left_side l.left ∷ drop 1 l.fn.reader.pending;
   shorter : length l.reader.rest ≤ length l.fn.reader.rest;
@@ -113,11 +113,11 @@ invariant-postfixes-loop-postfixes l = record {
   reads : Reads (spelled.postfixes (postfixes_of (map postfix_view l.postfixes.items))) l.fn.reader l.reader;
 }
 
-abbrev pub decreases-postfixes-loop-postfixes : goal.decreases-postfixes-loop-postfixes
-decreases-postfixes-loop-postfixes l = length l.reader.rest
+abbrev pub decreases-operands::postfixes-loop-postfixes : goal.decreases-operands::postfixes-loop-postfixes
+decreases-operands::postfixes-loop-postfixes l = length l.reader.rest
 
-abbrev pub invariant-arguments-loop-arguments : goal.invariant-arguments-loop-arguments
-invariant-arguments-loop-arguments l = record {
+abbrev pub invariant-operands::arguments-loop-arguments : goal.invariant-operands::arguments-loop-arguments
+invariant-operands::arguments-loop-arguments l = record {
   same : l.reader.source ≡ l.fn.reader.source;
   next : l.reader.pending ≡ left_side N.PostfixMore ∷ drop 1 l.fn.reader.pending;
   shorter : length l.reader.rest < length l.fn.reader.rest;
@@ -126,11 +126,11 @@ invariant-arguments-loop-arguments l = record {
   reads : Reads (spelled.arguments (expressions_of (map expression_view l.arguments.items))) l.fn.reader l.reader;
 }
 
-abbrev pub decreases-arguments-loop-arguments : goal.decreases-arguments-loop-arguments
-decreases-arguments-loop-arguments l = length l.reader.rest
+abbrev pub decreases-operands::arguments-loop-arguments : goal.decreases-operands::arguments-loop-arguments
+decreases-operands::arguments-loop-arguments l = length l.reader.rest
 
-abbrev pub invariant-specifiers-loop-specifiers : goal.invariant-specifiers-loop-specifiers
-invariant-specifiers-loop-specifiers l = record {
+abbrev pub invariant-specifier::specifiers-loop-specifiers : goal.invariant-specifier::specifiers-loop-specifiers
+invariant-specifier::specifiers-loop-specifiers l = record {
   same : l.reader.source ≡ l.fn.reader.source;
   next : l.reader.pending ≡ left_side N.SpecifiersMore ∷ drop 1 l.fn.reader.pending;
   shorter : length l.reader.rest < length l.fn.reader.rest;
@@ -139,11 +139,11 @@ invariant-specifiers-loop-specifiers l = record {
   reads : Reads (spelled.specifiers (specifiers_of (map specifier_view l.specifiers.items))) l.fn.reader l.reader;
 }
 
-abbrev pub decreases-specifiers-loop-specifiers : goal.decreases-specifiers-loop-specifiers
-decreases-specifiers-loop-specifiers l = length l.reader.rest
+abbrev pub decreases-specifier::specifiers-loop-specifiers : goal.decreases-specifier::specifiers-loop-specifiers
+decreases-specifier::specifiers-loop-specifiers l = length l.reader.rest
 
-abbrev pub invariant-structure_body-loop-members : goal.invariant-structure_body-loop-members
-invariant-structure_body-loop-members l = record {
+abbrev pub invariant-structures::structure_body-loop-members : goal.invariant-structures::structure_body-loop-members
+invariant-structures::structure_body-loop-members l = record {
   same : l.reader.source ≡ l.fn.reader.source;
   next : l.reader.pending ≡ left_side N.MembersDeclarations ∷ class_number T.RightBrace ∷ drop 1 l.fn.reader.pending;
   shorter : length l.reader.rest < length l.fn.reader.rest;
@@ -151,11 +151,11 @@ invariant-structure_body-loop-members l = record {
   reads : Reads (any T.LeftBrace ∷ spelled.members (members_of (map member_view l.members.items))) l.fn.reader l.reader;
 }
 
-abbrev pub decreases-structure_body-loop-members : goal.decreases-structure_body-loop-members
-decreases-structure_body-loop-members l = length l.reader.rest
+abbrev pub decreases-structures::structure_body-loop-members : goal.decreases-structures::structure_body-loop-members
+decreases-structures::structure_body-loop-members l = length l.reader.rest
 
-abbrev pub invariant-member_declarators-loop-declarators : goal.invariant-member_declarators-loop-declarators
-invariant-member_declarators-loop-declarators l = record {
+abbrev pub invariant-structures::member_declarators-loop-declarators : goal.invariant-structures::member_declarators-loop-declarators
+invariant-structures::member_declarators-loop-declarators l = record {
   same : l.reader.source ≡ l.fn.reader.source;
   next : l.reader.pending ≡ left_side N.MembersMore ∷ drop 2 l.fn.reader.pending;
   shorter : length l.reader.rest < length l.fn.reader.rest;
@@ -165,11 +165,11 @@ invariant-member_declarators-loop-declarators l = record {
   reads : Reads (spelled.declarators (declarators_of (map declarator_view l.declarators.items))) l.fn.reader l.reader;
 }
 
-abbrev pub decreases-member_declarators-loop-declarators : goal.decreases-member_declarators-loop-declarators
-decreases-member_declarators-loop-declarators l = length l.reader.rest
+abbrev pub decreases-structures::member_declarators-loop-declarators : goal.decreases-structures::member_declarators-loop-declarators
+decreases-structures::member_declarators-loop-declarators l = length l.reader.rest
 
-abbrev pub invariant-member_bounds-loop-bounds : goal.invariant-member_bounds-loop-bounds
-invariant-member_bounds-loop-bounds l = record {
+abbrev pub invariant-structures::member_bounds-loop-bounds : goal.invariant-structures::member_bounds-loop-bounds
+invariant-structures::member_bounds-loop-bounds l = record {
   same : l.reader.source ≡ l.fn.reader.source;
   next : l.reader.pending ≡ left_side N.MemberBounds ∷ drop 1 l.fn.reader.pending;
   shorter : length l.reader.rest ≤ length l.fn.reader.rest;
@@ -178,11 +178,11 @@ invariant-member_bounds-loop-bounds l = record {
   reads : Reads (spelled.bounds (bounds_of (map bound_view l.bounds.items))) l.fn.reader l.reader;
 }
 
-abbrev pub decreases-member_bounds-loop-bounds : goal.decreases-member_bounds-loop-bounds
-decreases-member_bounds-loop-bounds l = length l.reader.rest
+abbrev pub decreases-structures::member_bounds-loop-bounds : goal.decreases-structures::member_bounds-loop-bounds
+decreases-structures::member_bounds-loop-bounds l = length l.reader.rest
 
-abbrev pub invariant-enumeration_body-loop-after : goal.invariant-enumeration_body-loop-after
-invariant-enumeration_body-loop-after l = record {
+abbrev pub invariant-enumerations::enumeration_body-loop-after : goal.invariant-enumerations::enumeration_body-loop-after
+invariant-enumerations::enumeration_body-loop-after l = record {
   same : l.reader.source ≡ l.fn.reader.source;
   next : l.reader.pending ≡ after_next l.after (only N.MoreEnumeratorsName) (class_number T.RightBrace ∷ drop 1 l.fn.reader.pending);
   shorter : length l.reader.rest < length l.fn.reader.rest;
@@ -191,5 +191,5 @@ invariant-enumeration_body-loop-after l = record {
   reads : Reads (any T.LeftBrace ∷ spelled.enumerators (enumerators_of (map enumerator_view l.enumerators.items)) ++ comma_pieces l.after) l.fn.reader l.reader;
 }
 
-abbrev pub decreases-enumeration_body-loop-after : goal.decreases-enumeration_body-loop-after
-decreases-enumeration_body-loop-after l = length l.reader.rest
+abbrev pub decreases-enumerations::enumeration_body-loop-after : goal.decreases-enumerations::enumeration_body-loop-after
+decreases-enumerations::enumeration_body-loop-after l = length l.reader.rest
