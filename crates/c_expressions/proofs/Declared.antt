@@ -40,17 +40,14 @@ object_behind stars name bounds value =
 more_objects_push : (ds : List Statements.InitDeclaratorData) (d : Statements.InitDeclaratorData) → more_objects ds ++ more_objects (d ∷ []) ≡ more_objects (ds ++ d ∷ [])
 more_objects_push [] d = refl
 more_objects_push (x ∷ ds) d =
-    ap (λ (ps : List Piece). any T.Comma ∷ ps)
-    (append_assoc (declarator x.declarator) (initialization x.initialization ++ more_objects ds) (more_objects (d ∷ []))
-    ∙ ap (λ (ps : List Piece). declarator x.declarator ++ ps)
-    (append_assoc (initialization x.initialization) (more_objects ds) (more_objects (d ∷ [])) ∙ ap (λ (ps : List Piece). initialization x.initialization ++ ps) (more_objects_push ds d)))
+    append_assoc (any T.Comma ∷ declarator x.declarator ++ initialization x.initialization) (more_objects ds) (more_objects (d ∷ []))
+    ∙ ap (λ (ps : List Piece). any T.Comma ∷ declarator x.declarator ++ initialization x.initialization ++ ps) (more_objects_push ds d)
 
 pub objects_push : (ds : List Statements.InitDeclaratorData) (d : Statements.InitDeclaratorData) → 0 < length ds → objects ds ++ more_objects (d ∷ []) ≡ objects (ds ++ d ∷ [])
 objects_push [] d some = absurd (omega arith)
 objects_push (x ∷ ds) d some =
-    append_assoc (declarator x.declarator) (initialization x.initialization ++ more_objects ds) (more_objects (d ∷ []))
-    ∙ ap (λ (ps : List Piece). declarator x.declarator ++ ps)
-    (append_assoc (initialization x.initialization) (more_objects ds) (more_objects (d ∷ [])) ∙ ap (λ (ps : List Piece). initialization x.initialization ++ ps) (more_objects_push ds d))
+    append_assoc (declarator x.declarator ++ initialization x.initialization) (more_objects ds) (more_objects (d ∷ []))
+    ∙ ap (λ (ps : List Piece). declarator x.declarator ++ initialization x.initialization ++ ps) (more_objects_push ds d)
 
 pub objects_grouped : (ds : List Statements.InitDeclaratorData) (d : Statements.InitDeclaratorData) → AreGroupedObjects ds → AreGroupedObjects (d ∷ []) → AreGroupedObjects (ds ++ d ∷ [])
 objects_grouped [] d h one = one

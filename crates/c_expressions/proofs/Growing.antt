@@ -134,9 +134,8 @@ enumerators_pushed old new e behind some is =
 pub members_push : (ms : List OneMember) (m : OneMember) → members (members_of ms) ++ members (members_of (m ∷ [])) ≡ members (members_of (ms ++ m ∷ []))
 members_push [] m = refl
 members_push (x ∷ ms) m =
-    append_assoc (specifiers x.specifiers) (declarators x.declarators ++ any T.Semicolon ∷ members (members_of ms)) (members (members_of (m ∷ [])))
-    ∙ ap (λ qs. specifiers x.specifiers ++ qs) (append_assoc (declarators x.declarators) (any T.Semicolon ∷ members (members_of ms)) (members (members_of (m ∷ []))))
-    ∙ ap (λ qs. specifiers x.specifiers ++ declarators x.declarators ++ any T.Semicolon ∷ qs) (members_push ms m)
+    append_assoc (specifiers x.specifiers ++ declarators x.declarators) (any T.Semicolon ∷ members (members_of ms)) (members (members_of (m ∷ [])))
+    ∙ ap (λ (qs : List Piece). specifiers x.specifiers ++ declarators x.declarators ++ any T.Semicolon ∷ qs) (members_push ms m)
 
 -- operators with their operands behind what they begin with
 pub operations_pushed : (front : List Piece) (items news : List Operation) (o : Operation) (place : Place) (operator : BinaryOperator) (t : TokenClass) (e : Expression)

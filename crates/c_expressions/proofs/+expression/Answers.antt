@@ -97,8 +97,8 @@ expressions::binary-returns-clause-grouped t c =
     subst IsGrouped (sym c.in_ok-chain_of.ensures)
     (chained_grouped (row c.args.level) (expression_view c.in_ok-first.first) _ (some_row c.args.level) c.in_ok-first.ensures.binds c.in_ok-first.ensures.grouped c.loop-rest.invariant.grouped)
 
-pub prefixed-unary_operator-operator-requires : goal.prefixed-unary_operator-operator-requires
-prefixed-unary_operator-operator-requires t c =
+pub operands::prefixed-unary_operator-operator-requires : goal.prefixed-unary_operator-operator-requires
+operands::prefixed-unary_operator-operator-requires t c =
     let found = unary_found c.in_ok-first.first c.in_ok-first.ensures.one in (found.0, found.1)
 
 pub operands::prefixed-place-requires : goal.operands::prefixed-place-requires
@@ -453,8 +453,8 @@ pub structures::member_declarators-returns-clause-some : goal.structures::member
 structures::member_declarators-returns-clause-some t c =
     has_declarator (map declarator_view c.loop-declarators.declarators.items) (some_seen declarator_view _ c.loop-declarators.invariant.some)
 
-pub specifier-keyword-keyword-requires : goal.specifier-keyword-keyword-requires
-specifier-keyword-keyword-requires t c =
+pub specifier::specifier-keyword-keyword-requires : goal.specifier-keyword-keyword-requires
+specifier::specifier-keyword-keyword-requires t c =
     let found = keyword_found c.in_ok-first.first c.in_ok-first.ensures.one c.in_default.not-STRUCT c.in_default.not-ENUM c.in_default.not-LIBRARY_TYPE c.in_default.not-TYPEDEF_NAME in (found.0, found.1)
 
 pub specifier::specifier-word-requires-in_default : goal.specifier::specifier-word-requires-in_default
