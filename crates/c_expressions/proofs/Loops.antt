@@ -1,5 +1,5 @@
 -- How a loop over a left side that may be nothing goes on.
-use Rattle.std.proofs.Common.{◌≡◌, ◌≢◌, ◌∙◌, ℕ, Bool, true, false, if◌then◌else◌, List, [], ◌∷◌, ◌++◌, map, drop, refl, sym, ap, subst, append_assoc}
+use Rattle.std.proofs.Common.{◌≡◌, ◌≢◌, ◌∙◌, ℕ, Bool, true, false, if◌then◌else◌, List, [], ◌∷◌, ◌++◌, map, drop, refl, sym, ap, subst, append_assoc, Result, Ok, Err, IfOk}
 use Rattle.c_tables.specs.Grammar.{left_side, rights}
 use Rattle.c_tables.specs.declared.nonterminal.Nonterminal.{Nonterminal}
 use Rattle.c_lexer.specs.declared.token_class.TokenClass.{TokenClass}
@@ -27,6 +27,11 @@ only_is left right two = ap first_right two
 pub optional_is : (left : Nonterminal) (right : List ℕ) → rights left ≡ right ∷ [] ∷ [] → rights left ≡ only left ∷ [] ∷ []
 optional_is left right two = two ∙ ap (λ (r : List ℕ). r ∷ [] ∷ []) (sym (only_is left right two))
 
+-- what a call answered that is handed on
+pub each_ok : {T E : Type 0} {P Q : T → Type 0} (r : Result T E) → ((x : T) → P x → Q x) → IfOk r P → IfOk r Q
+each_ok (Ok x) f h = f x h
+each_ok (Err e) f h = tt
+
 -- a list of one that was pushed into an empty one
 pub first_pushed : {X D P : Type 0} (view : X → D) (whole : List D → P) (old new : List X) (x : X) → old ≡ [] → new ≡ old ++ x ∷ [] → whole (view x ∷ []) ≡ whole (map view new)
 first_pushed view whole old new x none is = ap (λ xs. whole (map view (xs ++ x ∷ []))) (sym none) ∙ ap (λ xs. whole (map view xs)) (sym is)
@@ -49,8 +54,11 @@ pub trailing_read : {b c : State} {close : List Piece} {a : State} (after : Afte
     → Reads (brace ∷ elements ++ comma_pieces after) a b → b.source ≡ a.source → Reads close b c
     → Reads (brace ∷ elements ++ trailing (is_trailing after) ++ close) a c
 trailing_read {b} {c} {close} {a} after brace elements last before same r =
-    subst (λ (ps : List Piece). Reads (brace ∷ ps) a c)
-    (append_assoc elements (comma_pieces after) close ∙ ap (λ (ps : List Piece). elements ++ ps ++ close) (comma_is after last)) (followed before same r)
+    subst (λ (ps : List Piece). Reads (brace ∷ ps) a c) (ap (λ (ps : List Piece). (elements ++ ps) ++ close) (comma_is after last)) (followed before same r)
+
+-- what stands before the braces
+pub behind_front : (front elements comma close : List Piece) → ((front ++ elements) ++ comma) ++ close ≡ front ++ ((elements ++ comma) ++ close)
+behind_front front elements comma close = ap (λ (ps : List Piece). ps ++ close) (append_assoc front elements comma) ∙ append_assoc front (elements ++ comma) close
 
 -- behind the last element nothing of the list comes next but its end
 pub last_next : (after : After) (element others : List ℕ) → after ≢ Another → after_next after element others ≡ others

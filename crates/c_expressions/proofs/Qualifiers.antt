@@ -1,5 +1,5 @@
 -- A qualifier of a pointer that is read, or not.
-use Rattle.std.proofs.Common.{◌≡◌, ◌∙◌, ◌<◌, ℕ, List, [], ◌∷◌, ◌++◌, drop, length, Option, None, Some, IfSome, sym, ap, subst, append-nil}
+use Rattle.std.proofs.Common.{◌≡◌, ◌∙◌, ◌≢◌, ℕ, List, [], ◌∷◌, ◌++◌, drop, Option, None, Some, refl, sym, ap, subst, append-nil}
 use Rattle.c_tree.specs.declared.expression.Qualifier.{Qualifier}
 use Rattle.c_tables.specs.Grammar.{left_side}
 use Rattle.c_tables.specs.declared.nonterminal.Nonterminal.TheVariants as N
@@ -10,6 +10,10 @@ use Rattle.c_reader.specs.States.{State, Reads}
 use Rattle.c_reader.proofs.Moving.{followed}
 use Rattle.c_expressions.specs.Parts.{qualifier_pieces, qualifier_next}
 use Rattle.c_expressions.proofs.Growing.{qualifiers_push}
+
+pub is_none : (found : Option Qualifier) → ((q : Qualifier) → found ≢ Some q) → found ≡ None
+is_none None never = refl
+is_none (Some q) never = absurd (never q refl)
 
 module _ (found : Option Qualifier) (a b : State) (others : List ℕ) (next : b.pending ≡ qualifier_next found (drop 1 a.pending)) (before : a.pending ≡ left_side N.PointerQualifiers ∷ others) where
   pub another : (q : Qualifier) → found ≡ Some q → b.pending ≡ left_side N.PointerQualifiers ∷ others

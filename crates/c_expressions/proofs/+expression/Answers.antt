@@ -1,4 +1,4 @@
-use Rattle.std.proofs.Common.{◌≡◌, ◌∙◌, ◌<◌, ◌≤◌, ◌+◌, ◌*◌, ℕ, List, [], ◌∷◌, ◌++◌, map, take, drop, length, sym, ap, subst, arith, append-nil, rules}
+use Rattle.std.proofs.Common.{◌≡◌, ◌∙◌, ◌<◌, ◌≤◌, ◌+◌, ◌*◌, ℕ, List, [], ◌∷◌, ◌++◌, map, take, drop, length, sym, ap, subst, arith, append_assoc, append-nil, rules}
 use Rattle.c_lexer.specs.TokenClasses.{class_number}
 use Rattle.c_lexer.specs.declared.token_class.TokenClass.{TokenClass}
 use Rattle.c_lexer.specs.declared.token_class.TokenClass.TheVariants as T
@@ -22,7 +22,7 @@ use Rattle.c_expressions.proofs.Chains.{spelled_chained, chained_binds, chained_
 use Rattle.c_expressions.proofs.Chosen.{unary_found, keyword_found, behind_first, drop_two}
 use Rattle.c_expressions.proofs.Growing.{arguments_pushed, arguments_grouped, declarators_pushed, declarators_grouped, enumerators_pushed, enumerators_grouped, has_declarator, has_enumerator, has_specifier, some_seen, sized_push, specifiers_push, specifiers_grouped, grown, operations_pushed, operations_grouped, postfixes_push, postfixes_grouped, bounds_push, bounds_grouped, sizes_push, members_push, members_grouped}
 use Rattle.c_expressions.proofs.Levels.{more_is, goes_on, operand_rank, falls, some_row}
-use Rattle.c_expressions.proofs.Loops.{again, behind_read, first_pushed, only_is, placeless, trailing_read}
+use Rattle.c_expressions.proofs.Loops.{again, behind_front, behind_read, each_ok, first_pushed, only_is, placeless, trailing_read}
 use Rattle.c_expressions.proofs.+expression.Goals as goal
 
 pub expressions::conditional-returns-clause-reads : goal.expressions::conditional-returns-clause-reads
@@ -97,7 +97,7 @@ expressions::binary-returns-clause-grouped t c =
     subst IsGrouped (sym c.in_ok-chain_of.ensures)
     (chained_grouped (row c.args.level) (expression_view c.in_ok-first.first) _ (some_row c.args.level) c.in_ok-first.ensures.binds c.in_ok-first.ensures.grouped c.loop-rest.invariant.grouped)
 
-pub operands::prefixed-unary_operator-operator-requires : goal.prefixed-unary_operator-operator-requires
+pub operands::prefixed-unary_operator-operator-requires : goal.operands::prefixed-unary_operator-operator-requires
 operands::prefixed-unary_operator-operator-requires t c =
     let found = unary_found c.in_ok-first.first c.in_ok-first.ensures.one in (found.0, found.1)
 
@@ -136,17 +136,17 @@ pub operands::prefixed-returns-clause-grouped : goal.operands::prefixed-returns-
 operands::prefixed-returns-clause-grouped t c =
     subst IsGrouped (sym c.in_ok-unary_of.ensures) (c.in_ok-operand.ensures.binds, c.in_ok-operand.ensures.grouped)
 
-pub operands::size_of-returns-then-leads_to-clause-reads : goal.operands::size_of-returns-then-leads_to-clause-reads
-operands::size_of-returns-then-leads_to-clause-reads t c =
+pub operands::size_of-returns-then-branch-clause-reads : goal.operands::size_of-returns-then-branch-clause-reads
+operands::size_of-returns-then-branch-clause-reads t c =
     subst (λ (d : Expressions.ExpressionData). Reads (spelled.expression d) c.args.reader.now c.pass-2.new.self) (sym c.sizeof_type_of.ensures)
     (followed c.in_ok-place.ensures.reads c.place.ensures.same (followed c.in_ok-pass.ensures.reads c.pass.ensures.same (into c.leads_to.ensures.same c.in_ok-leads_to.ensures.rest (followed c.in_ok-type_name.ensures.reads c.type_name.ensures.same (c.in_ok-pass-2.ensures.reads)))))
 
-pub operands::size_of-returns-then-leads_to-clause-binds : goal.operands::size_of-returns-then-leads_to-clause-binds
-operands::size_of-returns-then-leads_to-clause-binds t c =
+pub operands::size_of-returns-then-branch-clause-binds : goal.operands::size_of-returns-then-branch-clause-binds
+operands::size_of-returns-then-branch-clause-binds t c =
     subst (λ (d : Expressions.ExpressionData). 11 ≤ binding d) (sym c.sizeof_type_of.ensures) (omega arith)
 
-pub operands::size_of-returns-then-leads_to-clause-grouped : goal.operands::size_of-returns-then-leads_to-clause-grouped
-operands::size_of-returns-then-leads_to-clause-grouped t c =
+pub operands::size_of-returns-then-branch-clause-grouped : goal.operands::size_of-returns-then-branch-clause-grouped
+operands::size_of-returns-then-branch-clause-grouped t c =
     subst IsGrouped (sym c.sizeof_type_of.ensures) c.in_ok-type_name.ensures.grouped
 
 pub operands::size_of-returns-clause-reads : goal.operands::size_of-returns-clause-reads
@@ -162,17 +162,17 @@ pub operands::size_of-returns-clause-grouped : goal.operands::size_of-returns-cl
 operands::size_of-returns-clause-grouped t c =
     subst IsGrouped (sym c.in_ok-sizeof_expression_of.ensures) c.in_ok-operand.ensures.grouped
 
-pub operands::bracketed-returns-then-leads_to-clause-reads : goal.operands::bracketed-returns-then-leads_to-clause-reads
-operands::bracketed-returns-then-leads_to-clause-reads t c =
+pub operands::bracketed-returns-then-branch-clause-reads : goal.operands::bracketed-returns-then-branch-clause-reads
+operands::bracketed-returns-then-branch-clause-reads t c =
     subst (λ (d : Expressions.ExpressionData). Reads (spelled.expression d) c.args.reader.now c.unary.new.reader) (sym c.in_ok-cast_of.ensures)
     (followed c.in_ok-place.ensures.reads c.place.ensures.same (into c.leads_to.ensures.same c.in_ok-leads_to.ensures.rest (followed c.in_ok-type_name.ensures.reads c.type_name.ensures.same (followed c.in_ok-pass.ensures.reads c.pass.ensures.same (c.in_ok-operand.ensures.reads)))))
 
-pub operands::bracketed-returns-then-leads_to-clause-binds : goal.operands::bracketed-returns-then-leads_to-clause-binds
-operands::bracketed-returns-then-leads_to-clause-binds t c =
+pub operands::bracketed-returns-then-branch-clause-binds : goal.operands::bracketed-returns-then-branch-clause-binds
+operands::bracketed-returns-then-branch-clause-binds t c =
     subst (λ (d : Expressions.ExpressionData). 11 ≤ binding d) (sym c.in_ok-cast_of.ensures) (omega arith)
 
-pub operands::bracketed-returns-then-leads_to-clause-grouped : goal.operands::bracketed-returns-then-leads_to-clause-grouped
-operands::bracketed-returns-then-leads_to-clause-grouped t c =
+pub operands::bracketed-returns-then-branch-clause-grouped : goal.operands::bracketed-returns-then-branch-clause-grouped
+operands::bracketed-returns-then-branch-clause-grouped t c =
     subst IsGrouped (sym c.in_ok-cast_of.ensures) (c.in_ok-type_name.ensures.grouped, c.in_ok-operand.ensures.binds, c.in_ok-operand.ensures.grouped)
 
 pub operands::bracketed-returns-clause-reads : goal.operands::bracketed-returns-clause-reads
@@ -277,7 +277,7 @@ specifier::enumeration-returns-clause-grouped t c =
 pub structures::member_declaration-returns-clause-reads : goal.structures::member_declaration-returns-clause-reads
 structures::member_declaration-returns-clause-reads t c =
     subst (λ (m : OneMember). Reads (spelled.members (members_of (m ∷ []))) c.args.reader.now c.pass.new.self) (sym c.members_of_type.ensures)
-    (followed c.in_ok-specifiers.ensures.reads c.specifiers.ensures.same (followed c.in_ok-declarators.ensures.reads c.member_declarators.ensures.same (c.in_ok-pass.ensures.reads)))
+    (followed (followed c.in_ok-specifiers.ensures.reads c.specifiers.ensures.same c.in_ok-declarators.ensures.reads) (c.member_declarators.ensures.same ∙ c.specifiers.ensures.same) c.in_ok-pass.ensures.reads)
 
 pub structures::member_declaration-returns-clause-grouped : goal.structures::member_declaration-returns-clause-grouped
 structures::member_declaration-returns-clause-grouped t c =
@@ -353,9 +353,9 @@ operands::arguments-loop-arguments-init t c =
       next = search rules;
       shorter = search rules;
       some = grind arith;
-      grouped = subst AreArguments (first_pushed expression_view expressions_of c.new.result.items c.push.new.self.items c.in_ok-first.first c.new.ensures c.in_ok-push.ensures.items) (c.in_ok-first.ensures.grouped, tt);
+      grouped = subst AreArguments (first_pushed expression_view expressions_of c.new-arguments.result.items c.push.new.self.items c.in_ok-first.first c.new-arguments.ensures.items c.in_ok-push.ensures.items) (c.in_ok-first.ensures.grouped, tt);
       reads = subst (λ (ps : List Piece). Reads ps c.args.reader.now c.conditional.new.reader)
-          (sym (append-nil _) ∙ first_pushed expression_view (λ (ds : List Expressions.ExpressionData). spelled.arguments (expressions_of ds)) c.new.result.items c.push.new.self.items c.in_ok-first.first c.new.ensures c.in_ok-push.ensures.items)
+          (sym (append-nil _) ∙ first_pushed expression_view (λ (ds : List Expressions.ExpressionData). spelled.arguments (expressions_of ds)) c.new-arguments.result.items c.push.new.self.items c.in_ok-first.first c.new-arguments.ensures.items c.in_ok-push.ensures.items)
           (search rules);
     }
 
@@ -385,9 +385,9 @@ specifier::specifiers-loop-specifiers-init t c =
       next = search rules;
       shorter = search rules;
       some = grind arith;
-      grouped = subst AreSpecifiers (first_pushed specifier_view specifiers_of c.new.result.items c.push.new.self.items c.in_ok-first.first c.new.ensures c.in_ok-push.ensures.items) (c.in_ok-first.ensures.grouped, tt);
+      grouped = subst AreSpecifiers (first_pushed specifier_view specifiers_of c.new-specifiers.result.items c.push.new.self.items c.in_ok-first.first c.new-specifiers.ensures.items c.in_ok-push.ensures.items) (c.in_ok-first.ensures.grouped, tt);
       reads = subst (λ (ps : List Piece). Reads ps c.args.reader.now c.specifier.new.reader)
-          (sym (append-nil _) ∙ first_pushed specifier_view (λ (ds : List Expressions.SpecifierData). spelled.specifiers (specifiers_of ds)) c.new.result.items c.push.new.self.items c.in_ok-first.first c.new.ensures c.in_ok-push.ensures.items)
+          (sym (append-nil _) ∙ first_pushed specifier_view (λ (ds : List Expressions.SpecifierData). spelled.specifiers (specifiers_of ds)) c.new-specifiers.result.items c.push.new.self.items c.in_ok-first.first c.new-specifiers.ensures.items c.in_ok-push.ensures.items)
           (search rules);
     }
 
@@ -417,10 +417,10 @@ structures::member_declarators-loop-declarators-init t c =
       next = search rules;
       shorter = search rules;
       some = grind arith;
-      sized = subst AreSized (first_pushed declarator_view declarators_of c.new.result.items c.push.new.self.items c.in_ok-first.first c.new.ensures c.in_ok-push.ensures.items) (c.in_ok-first.ensures.sized, tt);
-      grouped = subst AreDeclarators (first_pushed declarator_view declarators_of c.new.result.items c.push.new.self.items c.in_ok-first.first c.new.ensures c.in_ok-push.ensures.items) (c.in_ok-first.ensures.grouped, tt);
+      sized = subst AreSized (first_pushed declarator_view declarators_of c.new-declarators.result.items c.push.new.self.items c.in_ok-first.first c.new-declarators.ensures.items c.in_ok-push.ensures.items) (c.in_ok-first.ensures.sized, tt);
+      grouped = subst AreDeclarators (first_pushed declarator_view declarators_of c.new-declarators.result.items c.push.new.self.items c.in_ok-first.first c.new-declarators.ensures.items c.in_ok-push.ensures.items) (c.in_ok-first.ensures.grouped, tt);
       reads = subst (λ (ps : List Piece). Reads ps c.args.reader.now c.member.new.reader)
-          (sym (append-nil _) ∙ first_pushed declarator_view (λ (ds : List Expressions.DeclaratorData). spelled.declarators (declarators_of ds)) c.new.result.items c.push.new.self.items c.in_ok-first.first c.new.ensures c.in_ok-push.ensures.items)
+          (sym (append-nil _) ∙ first_pushed declarator_view (λ (ds : List Expressions.DeclaratorData). spelled.declarators (declarators_of ds)) c.new-declarators.result.items c.push.new.self.items c.in_ok-first.first c.new-declarators.ensures.items c.in_ok-push.ensures.items)
           (search rules);
     }
 
@@ -453,7 +453,7 @@ pub structures::member_declarators-returns-clause-some : goal.structures::member
 structures::member_declarators-returns-clause-some t c =
     has_declarator (map declarator_view c.loop-declarators.declarators.items) (some_seen declarator_view _ c.loop-declarators.invariant.some)
 
-pub specifier::specifier-keyword-keyword-requires : goal.specifier-keyword-keyword-requires
+pub specifier::specifier-keyword-keyword-requires : goal.specifier::specifier-keyword-keyword-requires
 specifier::specifier-keyword-keyword-requires t c =
     let found = keyword_found c.in_ok-first.first c.in_ok-first.ensures.one c.in_default.not-STRUCT c.in_default.not-ENUM c.in_default.not-LIBRARY_TYPE c.in_default.not-TYPEDEF_NAME in (found.0, found.1)
 
@@ -501,9 +501,9 @@ pub structures::structure_body-returns-clause-reads : goal.structures::structure
 structures::structure_body-returns-clause-reads t c =
     record {
       behind = any T.LeftBrace ∷ spelled.members (members_of (map member_view c.loop-members.members.items)) ++ at T.RightBrace c.in_ok-close.close ∷ [];
-      is = ap spelled.specifier c.struct_declaration_of.ensures;
-      reads = into c.open.ensures.same c.in_ok-open.ensures.rest
-          (followed (up_to c.loop-members.invariant.reads c.in_ok-option.ensures.rest) (c.option.ensures.same ∙ c.loop-members.invariant.same) c.in_ok-close.ensures.reads);
+      is = ap spelled.specifier c.struct_declaration_of.ensures
+          ∙ append_assoc (at T.Struct c.args.place ∷ spelled.optional_tag c.args.tag) (any T.LeftBrace ∷ spelled.members (members_of (map member_view c.loop-members.members.items))) (at T.RightBrace c.in_ok-close.close ∷ []);
+      reads = followed (up_to c.loop-members.invariant.reads c.in_ok-option.ensures.rest) (c.option.ensures.same ∙ c.loop-members.invariant.same) c.in_ok-close.ensures.reads;
     }
 
 pub structures::structure_body-returns-clause-grouped : goal.structures::structure_body-returns-clause-grouped
@@ -514,7 +514,8 @@ pub enumerations::enumeration_body-returns-clause-reads : goal.enumerations::enu
 enumerations::enumeration_body-returns-clause-reads t c =
     record {
       behind = any T.LeftBrace ∷ spelled.enumerators (enumerators_of (map enumerator_view c.loop-after.enumerators.items)) ++ spelled.trailing (is_trailing c.loop-after.after) ++ at T.RightBrace c.in_ok-close.close ∷ [];
-      is = ap spelled.specifier c.enum_declaration_of.ensures;
+      is = ap spelled.specifier c.enum_declaration_of.ensures
+          ∙ behind_front (at T.Enum c.args.place ∷ spelled.optional_tag c.args.tag) (any T.LeftBrace ∷ spelled.enumerators (enumerators_of (map enumerator_view c.loop-after.enumerators.items))) (spelled.trailing (is_trailing c.loop-after.after)) (at T.RightBrace c.in_ok-close.close ∷ []);
       reads = trailing_read c.loop-after.after (any T.LeftBrace) (spelled.enumerators (enumerators_of (map enumerator_view c.loop-after.enumerators.items))) c.loop-after-test.false c.loop-after.invariant.reads c.loop-after.invariant.same c.in_ok-close.ensures.reads;
     }
 
@@ -539,13 +540,13 @@ pub enumerations::enumerator-returns-clause-grouped : goal.enumerations::enumera
 enumerations::enumerator-returns-clause-grouped t c =
     subst (λ (e : OneEnumerator). AreEnumerators (enumerators_of (e ∷ []))) (sym c.in_ok-enumerator_of-2.ensures) (c.in_ok-value.ensures.grouped, tt)
 
-pub specifier::structure-returns-then-not-leads_to-clause-reads : goal.specifier::structure-returns-then-not-leads_to-clause-reads
-specifier::structure-returns-then-not-leads_to-clause-reads t c =
-    behind_read c.structure_body.result.ensures.reads (into c.leads_to.ensures.same c.in_ok-leads_to.ensures.rest c.in_ok-place.ensures.reads) (c.leads_to.ensures.same ∙ c.place.ensures.same)
+pub specifier::structure-returns-then-not-branch-clause-reads : goal.specifier::structure-returns-then-not-branch-clause-reads
+specifier::structure-returns-then-not-branch-clause-reads t c =
+    each_ok c.structure_body.result (λ s r. behind_read r (up_to c.in_ok-place.ensures.reads c.in_ok-leads_to.ensures.rest) (c.leads_to.ensures.same ∙ c.place.ensures.same)) c.structure_body.ensures.reads
 
-pub specifier::enumeration-returns-then-not-leads_to-clause-reads : goal.specifier::enumeration-returns-then-not-leads_to-clause-reads
-specifier::enumeration-returns-then-not-leads_to-clause-reads t c =
-    behind_read c.enumeration_body.result.ensures.reads (into c.leads_to.ensures.same c.in_ok-leads_to.ensures.rest c.in_ok-place.ensures.reads) (c.leads_to.ensures.same ∙ c.place.ensures.same)
+pub specifier::enumeration-returns-then-not-branch-clause-reads : goal.specifier::enumeration-returns-then-not-branch-clause-reads
+specifier::enumeration-returns-then-not-branch-clause-reads t c =
+    each_ok c.enumeration_body.result (λ s r. behind_read r (up_to c.in_ok-place.ensures.reads c.in_ok-leads_to.ensures.rest) (c.leads_to.ensures.same ∙ c.place.ensures.same)) c.enumeration_body.ensures.reads
 
 pub enumerations::enumeration_body-loop-after-init : goal.enumerations::enumeration_body-loop-after-init
 enumerations::enumeration_body-loop-after-init t c =
@@ -560,9 +561,9 @@ enumerations::enumeration_body-loop-after-init t c =
           (c.in_ok-first.ensures.next ∙ ap (drop 2) c.in_ok-pass.ensures.next ∙ ap (λ (s : State). drop 2 (drop 1 s.pending)) c.in_ok-open.ensures.moved);
       shorter = omega arith;
       some = grind arith;
-      grouped = subst AreEnumerators (first_pushed enumerator_view enumerators_of c.new.result.items c.push.new.self.items c.in_ok-first.first c.new.ensures c.in_ok-push.ensures.items) c.in_ok-first.ensures.grouped;
+      grouped = subst AreEnumerators (first_pushed enumerator_view enumerators_of c.new-enumerators.result.items c.push.new.self.items c.in_ok-first.first c.new-enumerators.ensures.items c.in_ok-push.ensures.items) c.in_ok-first.ensures.grouped;
       reads = subst (λ (ps : List Piece). Reads (any T.LeftBrace ∷ ps ++ comma_pieces c.in_ok-after.after) c.args.reader.now c.after_enumerator.new.reader)
-          (first_pushed enumerator_view (λ (es : List OneEnumerator). spelled.enumerators (enumerators_of es)) c.new.result.items c.push.new.self.items c.in_ok-first.first c.new.ensures c.in_ok-push.ensures.items)
+          (first_pushed enumerator_view (λ (es : List OneEnumerator). spelled.enumerators (enumerators_of es)) c.new-enumerators.result.items c.push.new.self.items c.in_ok-first.first c.new-enumerators.ensures.items c.in_ok-push.ensures.items)
           (into c.open.ensures.same c.in_ok-open.ensures.rest (followed c.in_ok-pass.ensures.reads c.pass.ensures.same (followed c.in_ok-first.ensures.reads c.enumerator.ensures.same c.in_ok-after.ensures.reads)));
     }
 

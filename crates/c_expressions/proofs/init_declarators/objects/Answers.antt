@@ -22,10 +22,10 @@ loop-declarators-init c =
       next = search rules;
       shorter = search rules;
       some = grind arith;
-      grouped = subst AreGroupedObjects (first_pushed init_declarator_view (λ (ds : List Statements.InitDeclaratorData). ds) c.new.result.items c.push.new.self.items c.in_ok-first.first c.new.ensures c.in_ok-push.ensures.items)
+      grouped = subst AreGroupedObjects (first_pushed init_declarator_view (λ (ds : List Statements.InitDeclaratorData). ds) c.new-declarators.result.items c.push.new.self.items c.in_ok-first.first c.new-declarators.ensures.items c.in_ok-push.ensures.items)
           c.in_ok-first.ensures.grouped;
       reads = subst (λ (ps : List Piece). ReadsBehind (pointers (pointers_view c.args.stars.items) ++ word T.Identifier c.args.name ∷ []) ps c.args.reader.now c.init_declarator.new.reader)
-          (first_pushed init_declarator_view spelled.objects c.new.result.items c.push.new.self.items c.in_ok-first.first c.new.ensures c.in_ok-push.ensures.items)
+          (first_pushed init_declarator_view spelled.objects c.new-declarators.result.items c.push.new.self.items c.in_ok-first.first c.new-declarators.ensures.items c.in_ok-push.ensures.items)
           (behind_into c.open.ensures.same c.in_ok-open.ensures.rest c.in_ok-first.ensures.reads);
     }
 

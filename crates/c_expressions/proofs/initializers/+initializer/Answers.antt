@@ -36,9 +36,9 @@ list-loop-after-init t c =
           ∙ ap (after_next c.in_ok-after.after (only N.MoreInitializersValue)) (ap (drop 1) (c.in_ok-first.ensures.next ∙ ap (drop 1) c.in_ok-place.ensures.next) ∙ drop_three c.args.reader.now.pending);
       shorter = omega arith;
       some = grind arith;
-      grouped = subst AreGroupedInitializers (first_pushed initializer_view initializers_of c.new.result.items c.push.new.self.items c.in_ok-first.first c.new.ensures c.in_ok-push.ensures.items) (c.in_ok-first.ensures.grouped, tt);
+      grouped = subst AreGroupedInitializers (first_pushed initializer_view initializers_of c.new-items.result.items c.push.new.self.items c.in_ok-first.first c.new-items.ensures.items c.in_ok-push.ensures.items) (c.in_ok-first.ensures.grouped, tt);
       reads = subst (λ (ps : List Piece). Reads (at T.LeftBrace c.in_ok-place.place ∷ ps ++ comma_pieces c.in_ok-after.after) c.args.reader.now c.after_initializer.new.reader)
-          (sym (append-nil _) ∙ first_pushed initializer_view (λ (is : List Statements.InitializerData). spelled.initializers (initializers_of is)) c.new.result.items c.push.new.self.items c.in_ok-first.first c.new.ensures c.in_ok-push.ensures.items)
+          (sym (append-nil _) ∙ first_pushed initializer_view (λ (is : List Statements.InitializerData). spelled.initializers (initializers_of is)) c.new-items.result.items c.push.new.self.items c.in_ok-first.first c.new-items.ensures.items c.in_ok-push.ensures.items)
           (followed c.in_ok-place.ensures.reads c.place.ensures.same (followed c.in_ok-first.ensures.reads c.initializer.ensures.same c.in_ok-after.ensures.reads));
     }
 

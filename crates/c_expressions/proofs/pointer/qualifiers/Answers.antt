@@ -1,6 +1,6 @@
 use Rattle.std.proofs.Common.{◌∙◌, ◌<◌, drop, length, Option, Some, IfSome, subst, arith}
 use Rattle.c_tree.specs.declared.expression.Qualifier.{Qualifier}
-use Rattle.c_expressions.proofs.Qualifiers.{another, no_more, qualifier_pushed, not_pushed}
+use Rattle.c_expressions.proofs.Qualifiers.{another, is_none, no_more, qualifier_pushed, not_pushed}
 use Rattle.c_expressions.proofs.pointer.qualifiers.Goals as goal
 
 pub loop-qualifiers-preserved : goal.loop-qualifiers-preserved
@@ -19,9 +19,9 @@ loop-qualifiers-preserved c =
 
 pub returns-clause-next : goal.returns-clause-next
 returns-clause-next c =
-    no_more c.in_ok-qualifier.field-0 c.loop-qualifiers.reader c.qualifier.new.reader (drop 1 c.args.reader.now.pending) c.in_ok-qualifier.ensures.next c.loop-qualifiers.invariant.next c.in-None.is
+    no_more c.in_ok-qualifier.field-0 c.loop-qualifiers.reader c.qualifier.new.reader (drop 1 c.args.reader.now.pending) c.in_ok-qualifier.ensures.next c.loop-qualifiers.invariant.next (is_none c.in_ok-qualifier.field-0 c.in_default.not-Some)
 
 pub returns-clause-reads : goal.returns-clause-reads
 returns-clause-reads c =
-    not_pushed c.loop-qualifiers.qualifiers.items c.in_ok-qualifier.field-0 c.args.reader.now c.loop-qualifiers.reader c.qualifier.new.reader c.in-None.is
+    not_pushed c.loop-qualifiers.qualifiers.items c.in_ok-qualifier.field-0 c.args.reader.now c.loop-qualifiers.reader c.qualifier.new.reader (is_none c.in_ok-qualifier.field-0 c.in_default.not-Some)
     c.loop-qualifiers.invariant.reads c.loop-qualifiers.invariant.same c.in_ok-qualifier.ensures.reads
