@@ -151,8 +151,8 @@ operands::size_of-returns-then-branch-clause-grouped t c =
 
 pub operands::size_of-returns-clause-reads : goal.operands::size_of-returns-clause-reads
 operands::size_of-returns-clause-reads t c =
-    subst (λ (d : Expressions.ExpressionData). Reads (spelled.expression d) c.args.reader.now c.pass-2.new.self) (sym c.in_ok-sizeof_expression_of.ensures)
-    (followed c.in_ok-place.ensures.reads c.place.ensures.same (followed c.in_ok-pass.ensures.reads c.pass.ensures.same (into c.leads_to.ensures.same c.in_ok-leads_to.ensures.rest (followed c.in_ok-operand.ensures.reads c.conditional.ensures.same (c.in_ok-pass-2.ensures.reads)))))
+    subst (λ (d : Expressions.ExpressionData). Reads (spelled.expression d) c.args.reader.now c.pass-3.new.self) (sym c.in_ok-sizeof_expression_of.ensures)
+    (followed c.in_ok-place.ensures.reads c.place.ensures.same (followed c.in_ok-pass.ensures.reads c.pass.ensures.same (into c.leads_to.ensures.same c.in_ok-leads_to.ensures.rest (followed c.in_ok-operand.ensures.reads c.conditional.ensures.same (c.in_ok-pass-3.ensures.reads)))))
 
 pub operands::size_of-returns-clause-binds : goal.operands::size_of-returns-clause-binds
 operands::size_of-returns-clause-binds t c =
@@ -181,8 +181,8 @@ operands::bracketed-returns-clause-reads t c =
     subst (λ (d : Expressions.ExpressionData). Reads (spelled.expression d) c.args.reader.now c.postfixes.new.reader) (sym c.in_ok-postfix_of.ensures)
     (subst (λ (ps : List Piece). Reads ps c.args.reader.now c.postfixes.new.reader) (sym (spelled_postfixed (expression_view c.in_ok-parenthesized.parenthesized) _))
     (subst (λ (d : Expressions.ExpressionData). Reads (spelled.expression d ++ _) c.args.reader.now c.postfixes.new.reader) (sym inner)
-    (followed (placeless (followed c.in_ok-place.ensures.reads c.place.ensures.same (into c.leads_to.ensures.same c.in_ok-leads_to.ensures.rest (followed c.in_ok-inner.ensures.reads c.conditional.ensures.same (c.in_ok-pass.ensures.reads)))))
-    (c.pass.ensures.same ∙ c.conditional.ensures.same ∙ c.leads_to.ensures.same ∙ c.place.ensures.same) c.in_ok-postfixes.ensures.reads)))
+    (followed (placeless (followed c.in_ok-place.ensures.reads c.place.ensures.same (into c.leads_to.ensures.same c.in_ok-leads_to.ensures.rest (followed c.in_ok-inner.ensures.reads c.conditional.ensures.same (c.in_ok-pass-2.ensures.reads)))))
+    (c.pass-2.ensures.same ∙ c.conditional.ensures.same ∙ c.leads_to.ensures.same ∙ c.place.ensures.same) c.in_ok-postfixes.ensures.reads)))
 
 pub operands::bracketed-returns-clause-binds : goal.operands::bracketed-returns-clause-binds
 operands::bracketed-returns-clause-binds t c =
@@ -362,20 +362,20 @@ operands::arguments-loop-arguments-init t c =
 pub operands::arguments-loop-arguments-preserved : goal.operands::arguments-loop-arguments-preserved
 operands::arguments-loop-arguments-preserved t c =
     let fewer = c.in_ok-next.ensures.shorter in
-    let same_rest = ap length c.in_ok-option-in-loop-arguments.ensures.rest in
+    let same_rest = ap length c.in_ok-option-2.ensures.rest in
     let before = c.loop-arguments.invariant.shorter in
     let comma = c.in_ok-pass.ensures.shorter in
     record {
       same = c.conditional-in-loop-arguments.ensures.same ∙ c.pass.ensures.same ∙ c.option-in-loop-arguments.ensures.same ∙ c.loop-arguments.invariant.same;
-      next = again N.PostfixMore 2 c.loop-arguments.reader c.option-in-loop-arguments.new.self c.conditional-in-loop-arguments.new.reader c.in_ok-option-in-loop-arguments.field-0 (drop 1 c.args.reader.now.pending) c.if-branch-in-loop-arguments.true c.in_ok-option-in-loop-arguments.ensures.moved
+      next = again N.PostfixMore 2 c.loop-arguments.reader c.option-in-loop-arguments.new.self c.conditional-in-loop-arguments.new.reader c.in_ok-option-2.field-0 (drop 1 c.args.reader.now.pending) c.if-branch-2.true c.in_ok-option-2.ensures.moved
           (c.in_ok-next.ensures.next ∙ ap (drop 1) c.in_ok-pass.ensures.next ∙ drop_two c.option-in-loop-arguments.new.self.pending) c.loop-arguments.invariant.next;
       shorter = omega arith;
       some = grind arith;
-      grouped = subst AreArguments (grown expression_view expressions_of c.loop-arguments.arguments.items c.push-in-loop-arguments.new.self.items c.in_ok-next.next c.in_ok-push-in-loop-arguments.ensures.items)
+      grouped = subst AreArguments (grown expression_view expressions_of c.loop-arguments.arguments.items c.push-in-loop-arguments.new.self.items c.in_ok-next.next c.in_ok-push-2.ensures.items)
           (arguments_grouped (map expression_view c.loop-arguments.arguments.items) (expression_view c.in_ok-next.next) c.loop-arguments.invariant.grouped c.in_ok-next.ensures.grouped);
       reads = subst (λ (ps : List Piece). Reads ps c.args.reader.now c.conditional-in-loop-arguments.new.reader)
-          (arguments_pushed c.loop-arguments.arguments.items c.push-in-loop-arguments.new.self.items c.in_ok-next.next c.loop-arguments.invariant.some c.in_ok-push-in-loop-arguments.ensures.items)
-          (followed (up_to c.loop-arguments.invariant.reads c.in_ok-option-in-loop-arguments.ensures.rest) (c.option-in-loop-arguments.ensures.same ∙ c.loop-arguments.invariant.same) (followed c.in_ok-pass.ensures.reads c.pass.ensures.same c.in_ok-next.ensures.reads));
+          (arguments_pushed c.loop-arguments.arguments.items c.push-in-loop-arguments.new.self.items c.in_ok-next.next c.loop-arguments.invariant.some c.in_ok-push-2.ensures.items)
+          (followed (up_to c.loop-arguments.invariant.reads c.in_ok-option-2.ensures.rest) (c.option-in-loop-arguments.ensures.same ∙ c.loop-arguments.invariant.same) (followed c.in_ok-pass.ensures.reads c.pass.ensures.same c.in_ok-next.ensures.reads));
     }
 
 pub specifier::specifiers-loop-specifiers-init : goal.specifier::specifiers-loop-specifiers-init
@@ -402,11 +402,11 @@ specifier::specifiers-loop-specifiers-preserved t c =
           (c.in_ok-next.ensures.next) c.loop-specifiers.invariant.next;
       shorter = omega arith;
       some = grind arith;
-      grouped = subst AreSpecifiers (grown specifier_view specifiers_of c.loop-specifiers.specifiers.items c.push-in-loop-specifiers.new.self.items c.in_ok-next.next c.in_ok-push-in-loop-specifiers.ensures.items)
+      grouped = subst AreSpecifiers (grown specifier_view specifiers_of c.loop-specifiers.specifiers.items c.push-in-loop-specifiers.new.self.items c.in_ok-next.next c.in_ok-push-2.ensures.items)
           (specifiers_grouped (map specifier_view c.loop-specifiers.specifiers.items) (specifier_view c.in_ok-next.next) c.loop-specifiers.invariant.grouped c.in_ok-next.ensures.grouped);
       reads = subst (λ (ps : List Piece). Reads ps c.args.reader.now c.specifier-in-loop-specifiers.new.reader)
           (specifiers_push (map specifier_view c.loop-specifiers.specifiers.items) (specifier_view c.in_ok-next.next)
-          ∙ grown specifier_view (λ (ds : List Expressions.SpecifierData). spelled.specifiers (specifiers_of ds)) c.loop-specifiers.specifiers.items c.push-in-loop-specifiers.new.self.items c.in_ok-next.next c.in_ok-push-in-loop-specifiers.ensures.items)
+          ∙ grown specifier_view (λ (ds : List Expressions.SpecifierData). spelled.specifiers (specifiers_of ds)) c.loop-specifiers.specifiers.items c.push-in-loop-specifiers.new.self.items c.in_ok-next.next c.in_ok-push-2.ensures.items)
           (followed (up_to c.loop-specifiers.invariant.reads c.in_ok-option.ensures.rest) (c.option.ensures.same ∙ c.loop-specifiers.invariant.same) (c.in_ok-next.ensures.reads));
     }
 
@@ -436,12 +436,12 @@ structures::member_declarators-loop-declarators-preserved t c =
           (c.in_ok-next.ensures.next ∙ ap (drop 1) c.in_ok-pass.ensures.next ∙ drop_two c.option.new.self.pending) c.loop-declarators.invariant.next;
       shorter = omega arith;
       some = grind arith;
-      sized = subst AreSized (grown declarator_view declarators_of c.loop-declarators.declarators.items c.push-in-loop-declarators.new.self.items c.in_ok-next.next c.in_ok-push-in-loop-declarators.ensures.items)
+      sized = subst AreSized (grown declarator_view declarators_of c.loop-declarators.declarators.items c.push-in-loop-declarators.new.self.items c.in_ok-next.next c.in_ok-push-2.ensures.items)
           (sized_push (map declarator_view c.loop-declarators.declarators.items) (declarator_view c.in_ok-next.next) c.loop-declarators.invariant.sized c.in_ok-next.ensures.sized);
-      grouped = subst AreDeclarators (grown declarator_view declarators_of c.loop-declarators.declarators.items c.push-in-loop-declarators.new.self.items c.in_ok-next.next c.in_ok-push-in-loop-declarators.ensures.items)
+      grouped = subst AreDeclarators (grown declarator_view declarators_of c.loop-declarators.declarators.items c.push-in-loop-declarators.new.self.items c.in_ok-next.next c.in_ok-push-2.ensures.items)
           (declarators_grouped (map declarator_view c.loop-declarators.declarators.items) (declarator_view c.in_ok-next.next) c.loop-declarators.invariant.grouped c.in_ok-next.ensures.grouped);
       reads = subst (λ (ps : List Piece). Reads ps c.args.reader.now c.member-in-loop-declarators.new.reader)
-          (declarators_pushed c.loop-declarators.declarators.items c.push-in-loop-declarators.new.self.items c.in_ok-next.next c.loop-declarators.invariant.some c.in_ok-push-in-loop-declarators.ensures.items)
+          (declarators_pushed c.loop-declarators.declarators.items c.push-in-loop-declarators.new.self.items c.in_ok-next.next c.loop-declarators.invariant.some c.in_ok-push-2.ensures.items)
           (followed (up_to c.loop-declarators.invariant.reads c.in_ok-option.ensures.rest) (c.option.ensures.same ∙ c.loop-declarators.invariant.same) (followed c.in_ok-pass.ensures.reads c.pass.ensures.same c.in_ok-next.ensures.reads));
     }
 
@@ -455,42 +455,42 @@ structures::member_declarators-returns-clause-some t c =
 
 pub specifier::specifier-keyword-keyword-requires : goal.specifier::specifier-keyword-keyword-requires
 specifier::specifier-keyword-keyword-requires t c =
-    let found = keyword_found c.in_ok-first.first c.in_ok-first.ensures.one c.in_default.not-STRUCT c.in_default.not-ENUM c.in_default.not-LIBRARY_TYPE c.in_default.not-TYPEDEF_NAME in (found.0, found.1)
+    let found = keyword_found c.in_ok-first.first c.in_ok-first.ensures.one c.in_default.not-21 c.in_default.not-22 c.in_default.not-2 c.in_default.not-1 in (found.0, found.1)
 
 pub specifier::specifier-word-requires-in_default : goal.specifier::specifier-word-requires-in_default
 specifier::specifier-word-requires-in_default t c =
-    let found = keyword_found c.in_ok-first.first c.in_ok-first.ensures.one c.in_default.not-STRUCT c.in_default.not-ENUM c.in_default.not-LIBRARY_TYPE c.in_default.not-TYPEDEF_NAME in
+    let found = keyword_found c.in_ok-first.first c.in_ok-first.ensures.one c.in_default.not-21 c.in_default.not-22 c.in_default.not-2 c.in_default.not-1 in
     let chosen = ap (λ (s : State). s.pending) c.in_ok-first.ensures.moved ∙ ap (λ (xs : List ℕ). xs ++ drop 1 c.args.reader.now.pending) found.2 in
     ap (take 1) chosen ∙ ap (λ (n : ℕ). n ∷ []) c.keyword-keyword.ensures ∙ ap (λ (k : TokenClass). class_number k ∷ []) (sym c.keyword_class.ensures)
 
 pub specifier::specifier-returns-in_default-clause-next : goal.specifier::specifier-returns-in_default-clause-next
 specifier::specifier-returns-in_default-clause-next t c =
-    let found = keyword_found c.in_ok-first.first c.in_ok-first.ensures.one c.in_default.not-STRUCT c.in_default.not-ENUM c.in_default.not-LIBRARY_TYPE c.in_default.not-TYPEDEF_NAME in
+    let found = keyword_found c.in_ok-first.first c.in_ok-first.ensures.one c.in_default.not-21 c.in_default.not-22 c.in_default.not-2 c.in_default.not-1 in
     let chosen = ap (λ (s : State). s.pending) c.in_ok-first.ensures.moved ∙ ap (λ (xs : List ℕ). xs ++ drop 1 c.args.reader.now.pending) found.2 in
-    c.in_ok-word.ensures.next ∙ ap (drop 1) chosen
+    c.in_ok-word-in_default.ensures.next ∙ ap (drop 1) chosen
 
 pub specifier::specifier-returns-in_default-clause-reads : goal.specifier::specifier-returns-in_default-clause-reads
 specifier::specifier-returns-in_default-clause-reads t c =
-    subst (λ (d : Expressions.SpecifierData). Reads (spelled.specifier d) c.args.reader.now c.word.new.self) (sym c.keyword_of.ensures)
-    (subst (λ (k : TokenClass). Reads (word k c.in_ok-word.word ∷ []) c.args.reader.now c.word.new.self) c.keyword_class.ensures
-    (into c.choose.ensures.same c.in_ok-first.ensures.rest c.in_ok-word.ensures.reads))
+    subst (λ (d : Expressions.SpecifierData). Reads (spelled.specifier d) c.args.reader.now c.word-in_default.new.self) (sym c.keyword_of.ensures)
+    (subst (λ (k : TokenClass). Reads (word k c.in_ok-word-in_default.word ∷ []) c.args.reader.now c.word-in_default.new.self) c.keyword_class.ensures
+    (into c.choose.ensures.same c.in_ok-first.ensures.rest c.in_ok-word-in_default.ensures.reads))
 
-pub specifier::specifier-returns-in-LIBRARY_TYPE-clause-reads : goal.specifier::specifier-returns-in-LIBRARY_TYPE-clause-reads
-specifier::specifier-returns-in-LIBRARY_TYPE-clause-reads t c =
+pub specifier::specifier-returns-in-2-clause-reads : goal.specifier::specifier-returns-in-2-clause-reads
+specifier::specifier-returns-in-2-clause-reads t c =
     subst (λ (d : Expressions.SpecifierData). Reads (spelled.specifier d) c.args.reader.now c.word.new.self) (sym c.library_type_of.ensures)
-    (into c.choose.ensures.same c.in_ok-first.ensures.rest c.in_ok-word.ensures.reads)
+    (into c.choose.ensures.same c.in_ok-first.ensures.rest c.in_ok-word-in-2.ensures.reads)
 
-pub specifier::specifier-returns-in-TYPEDEF_NAME-clause-reads : goal.specifier::specifier-returns-in-TYPEDEF_NAME-clause-reads
-specifier::specifier-returns-in-TYPEDEF_NAME-clause-reads t c =
-    subst (λ (d : Expressions.SpecifierData). Reads (spelled.specifier d) c.args.reader.now c.word.new.self) (sym c.typedef_name_of.ensures)
-    (into c.choose.ensures.same c.in_ok-first.ensures.rest c.in_ok-word.ensures.reads)
+pub specifier::specifier-returns-in-1-clause-reads : goal.specifier::specifier-returns-in-1-clause-reads
+specifier::specifier-returns-in-1-clause-reads t c =
+    subst (λ (d : Expressions.SpecifierData). Reads (spelled.specifier d) c.args.reader.now c.word-in-1.new.self) (sym c.typedef_name_of.ensures)
+    (into c.choose.ensures.same c.in_ok-first.ensures.rest c.in_ok-word-in-1.ensures.reads)
 
-pub specifier::specifier-returns-in-LIBRARY_TYPE-clause-grouped : goal.specifier::specifier-returns-in-LIBRARY_TYPE-clause-grouped
-specifier::specifier-returns-in-LIBRARY_TYPE-clause-grouped t c =
+pub specifier::specifier-returns-in-2-clause-grouped : goal.specifier::specifier-returns-in-2-clause-grouped
+specifier::specifier-returns-in-2-clause-grouped t c =
     subst IsSpecifier (sym c.library_type_of.ensures) tt
 
-pub specifier::specifier-returns-in-TYPEDEF_NAME-clause-grouped : goal.specifier::specifier-returns-in-TYPEDEF_NAME-clause-grouped
-specifier::specifier-returns-in-TYPEDEF_NAME-clause-grouped t c =
+pub specifier::specifier-returns-in-1-clause-grouped : goal.specifier::specifier-returns-in-1-clause-grouped
+specifier::specifier-returns-in-1-clause-grouped t c =
     subst IsSpecifier (sym c.typedef_name_of.ensures) tt
 
 pub specifier::specifier-returns-in_default-clause-grouped : goal.specifier::specifier-returns-in_default-clause-grouped
@@ -572,18 +572,18 @@ enumerations::enumeration_body-loop-after-preserved t c =
     let is_another : c.loop-after.after ≡ Another = search rules in
     let fewer = c.in_ok-next.ensures.shorter in
     let before = c.loop-after.invariant.shorter in
-    let behind = c.in_ok-after-in-loop-after.ensures.shorter in
+    let behind = c.in_ok-after_enumerator.ensures.shorter in
     record {
       same = c.after_enumerator-in-loop-after.ensures.same ∙ c.enumerator-in-loop-after.ensures.same ∙ c.loop-after.invariant.same;
-      next = c.in_ok-after-in-loop-after.ensures.next
-          ∙ ap (λ (xs : List ℕ). after_next c.in_ok-after-in-loop-after.after (only N.MoreEnumeratorsName) (drop 1 xs))
+      next = c.in_ok-after_enumerator.ensures.next
+          ∙ ap (λ (xs : List ℕ). after_next c.in_ok-after_enumerator.field-0 (only N.MoreEnumeratorsName) (drop 1 xs))
           (c.in_ok-next.ensures.next ∙ ap (drop 2) (c.loop-after.invariant.next ∙ ap (λ (a : After). after_next a (only N.MoreEnumeratorsName) (class_number T.RightBrace ∷ drop 1 c.args.reader.now.pending)) is_another));
       shorter = omega arith;
       some = grind arith;
-      grouped = subst AreEnumerators (grown enumerator_view enumerators_of c.loop-after.enumerators.items c.push-in-loop-after.new.self.items c.in_ok-next.next c.in_ok-push-in-loop-after.ensures.items)
+      grouped = subst AreEnumerators (grown enumerator_view enumerators_of c.loop-after.enumerators.items c.push-in-loop-after.new.self.items c.in_ok-next.next c.in_ok-push-2.ensures.items)
           (enumerators_grouped (map enumerator_view c.loop-after.enumerators.items) (enumerator_view c.in_ok-next.next) c.loop-after.invariant.grouped c.in_ok-next.ensures.grouped);
       reads = subst (λ (ps : List Piece). Reads (any T.LeftBrace ∷ ps) c.args.reader.now c.after_enumerator-in-loop-after.new.reader)
-          (enumerators_pushed c.loop-after.enumerators.items c.push-in-loop-after.new.self.items c.in_ok-next.next (comma_pieces c.in_ok-after-in-loop-after.after) c.loop-after.invariant.some c.in_ok-push-in-loop-after.ensures.items)
+          (enumerators_pushed c.loop-after.enumerators.items c.push-in-loop-after.new.self.items c.in_ok-next.next (comma_pieces c.in_ok-after_enumerator.field-0) c.loop-after.invariant.some c.in_ok-push-2.ensures.items)
           (followed (subst (λ (a : After). Reads (any T.LeftBrace ∷ spelled.enumerators (enumerators_of (map enumerator_view c.loop-after.enumerators.items)) ++ comma_pieces a) c.args.reader.now c.loop-after.reader) is_another c.loop-after.invariant.reads)
-          c.loop-after.invariant.same (followed c.in_ok-next.ensures.reads c.enumerator-in-loop-after.ensures.same c.in_ok-after-in-loop-after.ensures.reads));
+          c.loop-after.invariant.same (followed c.in_ok-next.ensures.reads c.enumerator-in-loop-after.ensures.same c.in_ok-after_enumerator.ensures.reads));
     }

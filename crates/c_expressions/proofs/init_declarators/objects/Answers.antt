@@ -40,11 +40,11 @@ loop-declarators-preserved c =
           c.in_ok-option.ensures.moved c.in_ok-next.ensures.next c.loop-declarators.invariant.next;
       shorter = omega arith;
       some = grind arith;
-      grouped = subst AreGroupedObjects (grown init_declarator_view (λ (ds : List Statements.InitDeclaratorData). ds) c.loop-declarators.declarators.items c.push-in-loop-declarators.new.self.items c.in_ok-next.next c.in_ok-push-in-loop-declarators.ensures.items)
+      grouped = subst AreGroupedObjects (grown init_declarator_view (λ (ds : List Statements.InitDeclaratorData). ds) c.loop-declarators.declarators.items c.push-in-loop-declarators.new.self.items c.in_ok-next.next c.in_ok-push-2.ensures.items)
           (objects_grouped (map init_declarator_view c.loop-declarators.declarators.items) (init_declarator_view c.in_ok-next.next) c.loop-declarators.invariant.grouped c.in_ok-next.ensures.grouped);
       reads = subst (λ (ps : List Piece). ReadsBehind (pointers (pointers_view c.args.stars.items) ++ word T.Identifier c.args.name ∷ []) ps c.args.reader.now c.next_declarator.new.reader)
           (objects_push (map init_declarator_view c.loop-declarators.declarators.items) (init_declarator_view c.in_ok-next.next) (some_seen init_declarator_view _ c.loop-declarators.invariant.some)
-          ∙ grown init_declarator_view spelled.objects c.loop-declarators.declarators.items c.push-in-loop-declarators.new.self.items c.in_ok-next.next c.in_ok-push-in-loop-declarators.ensures.items)
+          ∙ grown init_declarator_view spelled.objects c.loop-declarators.declarators.items c.push-in-loop-declarators.new.self.items c.in_ok-next.next c.in_ok-push-2.ensures.items)
           (behind_followed (behind_up_to c.loop-declarators.invariant.reads c.in_ok-option.ensures.rest) (c.option.ensures.same ∙ c.loop-declarators.invariant.same) c.in_ok-next.ensures.reads);
     }
 
