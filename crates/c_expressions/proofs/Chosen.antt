@@ -79,6 +79,12 @@ drop_three [] = refl
 drop_three (x ∷ []) = refl
 drop_three (x ∷ (y ∷ xs)) = refl
 
+pub drop_four : (xs : List ℕ) → drop 1 (drop 3 xs) ≡ drop 4 xs
+drop_four [] = refl
+drop_four (x ∷ []) = refl
+drop_four (x ∷ (y ∷ [])) = refl
+drop_four (x ∷ (y ∷ (z ∷ xs))) = refl
+
 pub behind_three : (xs : List ℕ) → drop 3 (take 4 xs) ≡ take 1 (drop 3 xs)
 behind_three [] = refl
 behind_three (x ∷ []) = refl

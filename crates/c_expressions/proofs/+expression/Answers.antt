@@ -1,4 +1,4 @@
-use Rattle.std.proofs.Common.{◌≡◌, ◌∙◌, ◌<◌, ◌≤◌, ◌+◌, ◌*◌, ℕ, List, [], ◌∷◌, ◌++◌, map, take, drop, length, sym, ap, subst, arith, append_assoc, append-nil, rules}
+use Rattle.std.proofs.Common.{◌≡◌, ◌≢◌, ◌∙◌, ◌<◌, ◌≤◌, ◌+◌, ◌*◌, ℕ, List, [], ◌∷◌, ◌++◌, map, take, drop, length, sym, ap, subst, arith, append_assoc, append-nil, rules}
 use Rattle.c_lexer.specs.TokenClasses.{class_number}
 use Rattle.c_lexer.specs.declared.token_class.TokenClass.{TokenClass}
 use Rattle.c_lexer.specs.declared.token_class.TokenClass.TheVariants as T
@@ -22,7 +22,7 @@ use Rattle.c_expressions.proofs.Chains.{spelled_chained, chained_binds, chained_
 use Rattle.c_expressions.proofs.Chosen.{unary_found, keyword_found, behind_first, drop_two}
 use Rattle.c_expressions.proofs.Growing.{arguments_pushed, arguments_grouped, declarators_pushed, declarators_grouped, enumerators_pushed, enumerators_grouped, has_declarator, has_enumerator, has_specifier, some_seen, sized_push, specifiers_push, specifiers_grouped, grown, operations_pushed, operations_grouped, postfixes_push, postfixes_grouped, bounds_push, bounds_grouped, sizes_push, members_push, members_grouped}
 use Rattle.c_expressions.proofs.Levels.{more_is, goes_on, operand_rank, falls, some_row}
-use Rattle.c_expressions.proofs.Loops.{again, behind_front, behind_read, each_ok, first_pushed, only_is, placeless, trailing_read}
+use Rattle.c_expressions.proofs.Loops.{again, behind_front, behind_read, each_ok, first_pushed, last_next, only_is, placeless, trailing_read}
 use Rattle.c_expressions.proofs.+expression.Goals as goal
 
 pub expressions::conditional-returns-clause-reads : goal.expressions::conditional-returns-clause-reads
@@ -510,13 +510,25 @@ pub structures::structure_body-returns-clause-grouped : goal.structures::structu
 structures::structure_body-returns-clause-grouped t c =
     subst IsSpecifier (sym c.struct_declaration_of.ensures) c.loop-members.invariant.grouped
 
+pub enumerations::enumeration_body-place-requires : goal.enumerations::enumeration_body-place-requires
+enumerations::enumeration_body-place-requires t c =
+    let last : c.loop-after.after ≢ Another = search rules in
+    ap (take 1) (c.loop-after.invariant.next ∙ last_next c.loop-after.after (only N.MoreEnumeratorsName) (class_number T.RightBrace ∷ drop 1 c.args.reader.now.pending) last)
+
+pub enumerations::enumeration_body-returns-clause-next : goal.enumerations::enumeration_body-returns-clause-next
+enumerations::enumeration_body-returns-clause-next t c =
+    let last : c.loop-after.after ≢ Another = search rules in
+    c.in_ok-close.ensures.next
+    ∙ ap (drop 1) (c.loop-after.invariant.next ∙ last_next c.loop-after.after (only N.MoreEnumeratorsName) (class_number T.RightBrace ∷ drop 1 c.args.reader.now.pending) last)
+
 pub enumerations::enumeration_body-returns-clause-reads : goal.enumerations::enumeration_body-returns-clause-reads
 enumerations::enumeration_body-returns-clause-reads t c =
+    let last : c.loop-after.after ≢ Another = search rules in
     record {
       behind = any T.LeftBrace ∷ spelled.enumerators (enumerators_of (map enumerator_view c.loop-after.enumerators.items)) ++ spelled.trailing (is_trailing c.loop-after.after) ++ at T.RightBrace c.in_ok-close.close ∷ [];
       is = ap spelled.specifier c.enum_declaration_of.ensures
           ∙ behind_front (at T.Enum c.args.place ∷ spelled.optional_tag c.args.tag) (any T.LeftBrace ∷ spelled.enumerators (enumerators_of (map enumerator_view c.loop-after.enumerators.items))) (spelled.trailing (is_trailing c.loop-after.after)) (at T.RightBrace c.in_ok-close.close ∷ []);
-      reads = trailing_read c.loop-after.after (any T.LeftBrace) (spelled.enumerators (enumerators_of (map enumerator_view c.loop-after.enumerators.items))) c.loop-after-test.false c.loop-after.invariant.reads c.loop-after.invariant.same c.in_ok-close.ensures.reads;
+      reads = trailing_read c.loop-after.after (any T.LeftBrace) (spelled.enumerators (enumerators_of (map enumerator_view c.loop-after.enumerators.items))) last c.loop-after.invariant.reads c.loop-after.invariant.same c.in_ok-close.ensures.reads;
     }
 
 pub enumerations::enumeration_body-returns-clause-grouped : goal.enumerations::enumeration_body-returns-clause-grouped

@@ -1,4 +1,4 @@
-use Rattle.std.proofs.Common.{◌≡◌, ◌∙◌, ◌<◌, ◌+◌, ◌*◌, ℕ, List, [], ◌∷◌, ◌++◌, map, take, drop, length, sym, ap, subst, arith, append-nil, rules}
+use Rattle.std.proofs.Common.{◌≡◌, ◌≢◌, ◌∙◌, ◌<◌, ◌+◌, ◌*◌, ℕ, List, [], ◌∷◌, ◌++◌, map, take, drop, length, sym, ap, subst, arith, append-nil, rules}
 use Rattle.c_lexer.specs.declared.token_class.TokenClass.TheVariants as T
 use Rattle.c_tree.specs.Statements
 use Rattle.c_tree.specs.StatementViews.{initializer_view, initializers_of}
@@ -11,7 +11,7 @@ use Rattle.c_reader.proofs.Moving.{followed, into}
 use Rattle.c_expressions.specs.Parts.{comma_pieces, after_next}
 use Rattle.c_expressions.specs.declared.elements.After.{After}
 use Rattle.c_expressions.specs.declared.elements.After.TheVariants.{Another}
-use Rattle.c_expressions.proofs.Chosen.{behind_three, drop_three}
+use Rattle.c_expressions.proofs.Chosen.{behind_three, drop_four, drop_three}
 use Rattle.c_expressions.proofs.Declared.{has_initializer, initializers_grouped, initializers_pushed}
 use Rattle.c_expressions.proofs.Growing.{grown, some_seen}
 use Rattle.c_expressions.proofs.Loops.{first_pushed, last_next, trailing_read}
@@ -63,10 +63,24 @@ list-loop-after-preserved t c =
           c.loop-after.invariant.same (followed c.in_ok-next.ensures.reads c.initializer-in-loop-after.ensures.same c.in_ok-after_initializer.ensures.reads));
     }
 
+pub list-place-2-requires : goal.list-place-2-requires
+list-place-2-requires t c =
+    let last : c.loop-after.after ≢ Another = search rules in
+    ap (take 1) (c.loop-after.invariant.next ∙ last_next c.loop-after.after (only N.MoreInitializersValue) (drop 3 c.args.reader.now.pending) last)
+    ∙ sym (behind_three c.args.reader.now.pending) ∙ ap (drop 3) c.requires
+
+pub list-returns-clause-next : goal.list-returns-clause-next
+list-returns-clause-next t c =
+    let last : c.loop-after.after ≢ Another = search rules in
+    c.in_ok-close.ensures.next
+    ∙ ap (drop 1) (c.loop-after.invariant.next ∙ last_next c.loop-after.after (only N.MoreInitializersValue) (drop 3 c.args.reader.now.pending) last)
+    ∙ drop_four c.args.reader.now.pending
+
 pub list-returns-clause-reads : goal.list-returns-clause-reads
 list-returns-clause-reads t c =
+    let last : c.loop-after.after ≢ Another = search rules in
     subst (λ (i : Statements.InitializerData). Reads (spelled.initializer i) c.args.reader.now c.place-2.new.self) (sym c.initial_list_of.ensures)
-    (trailing_read c.loop-after.after (at T.LeftBrace c.in_ok-place.place) (spelled.initializers (initializers_of (map initializer_view c.loop-after.items.items))) c.loop-after-test.false c.loop-after.invariant.reads
+    (trailing_read c.loop-after.after (at T.LeftBrace c.in_ok-place.place) (spelled.initializers (initializers_of (map initializer_view c.loop-after.items.items))) last c.loop-after.invariant.reads
     c.loop-after.invariant.same c.in_ok-close.ensures.reads)
 
 pub list-returns-clause-grouped : goal.list-returns-clause-grouped
