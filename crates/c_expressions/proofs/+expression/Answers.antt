@@ -256,22 +256,22 @@ pub specifier::type_name-returns-clause-grouped : goal.specifier::type_name-retu
 specifier::type_name-returns-clause-grouped t c =
     subst IsGroupedType (sym c.type_name_of.ensures) c.in_ok-specifiers.ensures.grouped
 
-pub specifier::structure-returns-clause-reads : goal.specifier::structure-returns-clause-reads
-specifier::structure-returns-clause-reads t c =
+pub specifier::structure-returns-else-branch-clause-reads : goal.specifier::structure-returns-else-branch-clause-reads
+specifier::structure-returns-else-branch-clause-reads t c =
     subst (λ (d : Expressions.SpecifierData). Reads (spelled.specifier d) c.args.reader.now c.option.new.self) (sym c.struct_reference_of.ensures)
     (followed c.in_ok-place.ensures.reads c.place.ensures.same (into c.leads_to.ensures.same c.in_ok-leads_to.ensures.rest (up_to c.in_ok-tag.ensures.reads c.in_ok-option.ensures.rest)))
 
-pub specifier::structure-returns-clause-grouped : goal.specifier::structure-returns-clause-grouped
-specifier::structure-returns-clause-grouped t c =
+pub specifier::structure-returns-else-branch-clause-grouped : goal.specifier::structure-returns-else-branch-clause-grouped
+specifier::structure-returns-else-branch-clause-grouped t c =
     subst IsSpecifier (sym c.struct_reference_of.ensures) tt
 
-pub specifier::enumeration-returns-clause-reads : goal.specifier::enumeration-returns-clause-reads
-specifier::enumeration-returns-clause-reads t c =
+pub specifier::enumeration-returns-else-branch-clause-reads : goal.specifier::enumeration-returns-else-branch-clause-reads
+specifier::enumeration-returns-else-branch-clause-reads t c =
     subst (λ (d : Expressions.SpecifierData). Reads (spelled.specifier d) c.args.reader.now c.option.new.self) (sym c.enum_reference_of.ensures)
     (followed c.in_ok-place.ensures.reads c.place.ensures.same (into c.leads_to.ensures.same c.in_ok-leads_to.ensures.rest (up_to c.in_ok-tag.ensures.reads c.in_ok-option.ensures.rest)))
 
-pub specifier::enumeration-returns-clause-grouped : goal.specifier::enumeration-returns-clause-grouped
-specifier::enumeration-returns-clause-grouped t c =
+pub specifier::enumeration-returns-else-branch-clause-grouped : goal.specifier::enumeration-returns-else-branch-clause-grouped
+specifier::enumeration-returns-else-branch-clause-grouped t c =
     subst IsSpecifier (sym c.enum_reference_of.ensures) tt
 
 pub structures::member_declaration-returns-clause-reads : goal.structures::member_declaration-returns-clause-reads
@@ -552,9 +552,21 @@ pub enumerations::enumerator-returns-clause-grouped : goal.enumerations::enumera
 enumerations::enumerator-returns-clause-grouped t c =
     subst (λ (e : OneEnumerator). AreEnumerators (enumerators_of (e ∷ []))) (sym c.in_ok-enumerator_of-2.ensures) (c.in_ok-value.ensures.grouped, tt)
 
+pub specifier::structure-returns-then-branch-clause-reads : goal.specifier::structure-returns-then-branch-clause-reads
+specifier::structure-returns-then-branch-clause-reads t c =
+    each_ok c.structure_body-2.result
+    (λ s r. behind_read r (up_to (followed c.in_ok-place.ensures.reads c.place.ensures.same (into c.leads_to.ensures.same c.in_ok-leads_to.ensures.rest c.in_ok-tag.ensures.reads)) c.in_ok-option.ensures.rest)
+    (c.option.ensures.same ∙ c.tag.ensures.same ∙ c.leads_to.ensures.same ∙ c.place.ensures.same)) c.structure_body-2.ensures.reads
+
 pub specifier::structure-returns-then-not-branch-clause-reads : goal.specifier::structure-returns-then-not-branch-clause-reads
 specifier::structure-returns-then-not-branch-clause-reads t c =
     each_ok c.structure_body.result (λ s r. behind_read r (up_to c.in_ok-place.ensures.reads c.in_ok-leads_to.ensures.rest) (c.leads_to.ensures.same ∙ c.place.ensures.same)) c.structure_body.ensures.reads
+
+pub specifier::enumeration-returns-then-branch-clause-reads : goal.specifier::enumeration-returns-then-branch-clause-reads
+specifier::enumeration-returns-then-branch-clause-reads t c =
+    each_ok c.enumeration_body-2.result
+    (λ s r. behind_read r (up_to (followed c.in_ok-place.ensures.reads c.place.ensures.same (into c.leads_to.ensures.same c.in_ok-leads_to.ensures.rest c.in_ok-tag.ensures.reads)) c.in_ok-option.ensures.rest)
+    (c.option.ensures.same ∙ c.tag.ensures.same ∙ c.leads_to.ensures.same ∙ c.place.ensures.same)) c.enumeration_body-2.ensures.reads
 
 pub specifier::enumeration-returns-then-not-branch-clause-reads : goal.specifier::enumeration-returns-then-not-branch-clause-reads
 specifier::enumeration-returns-then-not-branch-clause-reads t c =
