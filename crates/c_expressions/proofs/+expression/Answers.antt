@@ -138,7 +138,7 @@ operands::prefixed-returns-clause-grouped t c =
 
 pub operands::size_of-returns-then-branch-clause-reads : goal.operands::size_of-returns-then-branch-clause-reads
 operands::size_of-returns-then-branch-clause-reads t c =
-    subst (λ (d : Expressions.ExpressionData). Reads (spelled.expression d) c.args.reader.now c.pass-2.new.self) (sym c.sizeof_type_of.ensures)
+    subst (λ (d : Expressions.ExpressionData). Reads (spelled.expression d) c.args.reader.now c.pass-then-branch.new.self) (sym c.sizeof_type_of.ensures)
     (followed c.in_ok-place.ensures.reads c.place.ensures.same (followed c.in_ok-pass.ensures.reads c.pass.ensures.same (into c.leads_to.ensures.same c.in_ok-leads_to.ensures.rest (followed c.in_ok-type_name.ensures.reads c.type_name.ensures.same (c.in_ok-pass-2.ensures.reads)))))
 
 pub operands::size_of-returns-then-branch-clause-binds : goal.operands::size_of-returns-then-branch-clause-binds
@@ -151,7 +151,7 @@ operands::size_of-returns-then-branch-clause-grouped t c =
 
 pub operands::size_of-returns-clause-reads : goal.operands::size_of-returns-clause-reads
 operands::size_of-returns-clause-reads t c =
-    subst (λ (d : Expressions.ExpressionData). Reads (spelled.expression d) c.args.reader.now c.pass-3.new.self) (sym c.in_ok-sizeof_expression_of.ensures)
+    subst (λ (d : Expressions.ExpressionData). Reads (spelled.expression d) c.args.reader.now c.pass-2.new.self) (sym c.in_ok-sizeof_expression_of.ensures)
     (followed c.in_ok-place.ensures.reads c.place.ensures.same (followed c.in_ok-pass.ensures.reads c.pass.ensures.same (into c.leads_to.ensures.same c.in_ok-leads_to.ensures.rest (followed c.in_ok-operand.ensures.reads c.conditional.ensures.same (c.in_ok-pass-3.ensures.reads)))))
 
 pub operands::size_of-returns-clause-binds : goal.operands::size_of-returns-clause-binds
@@ -367,7 +367,7 @@ operands::arguments-loop-arguments-preserved t c =
     let comma = c.in_ok-pass.ensures.shorter in
     record {
       same = c.conditional-in-loop-arguments.ensures.same ∙ c.pass.ensures.same ∙ c.option-in-loop-arguments.ensures.same ∙ c.loop-arguments.invariant.same;
-      next = again N.PostfixMore 2 c.loop-arguments.reader c.option-in-loop-arguments.new.self c.conditional-in-loop-arguments.new.reader c.in_ok-option-2.field-0 (drop 1 c.args.reader.now.pending) c.if-branch-2.true c.in_ok-option-2.ensures.moved
+      next = again N.PostfixMore 2 c.loop-arguments.reader c.option-in-loop-arguments.new.self c.conditional-in-loop-arguments.new.reader c.in_ok-option-2.field-0 (drop 1 c.args.reader.now.pending) c.if-branch.true c.in_ok-option-2.ensures.moved
           (c.in_ok-next.ensures.next ∙ ap (drop 1) c.in_ok-pass.ensures.next ∙ drop_two c.option-in-loop-arguments.new.self.pending) c.loop-arguments.invariant.next;
       shorter = omega arith;
       some = grind arith;
@@ -554,9 +554,9 @@ enumerations::enumerator-returns-clause-grouped t c =
 
 pub specifier::structure-returns-then-branch-clause-reads : goal.specifier::structure-returns-then-branch-clause-reads
 specifier::structure-returns-then-branch-clause-reads t c =
-    each_ok c.structure_body-2.result
+    each_ok c.structure_body-then-branch.result
     (λ s r. behind_read r (up_to (followed c.in_ok-place.ensures.reads c.place.ensures.same (into c.leads_to.ensures.same c.in_ok-leads_to.ensures.rest c.in_ok-tag.ensures.reads)) c.in_ok-option.ensures.rest)
-    (c.option.ensures.same ∙ c.tag.ensures.same ∙ c.leads_to.ensures.same ∙ c.place.ensures.same)) c.structure_body-2.ensures.reads
+    (c.option.ensures.same ∙ c.tag.ensures.same ∙ c.leads_to.ensures.same ∙ c.place.ensures.same)) c.structure_body-then-branch.ensures.reads
 
 pub specifier::structure-returns-then-not-branch-clause-reads : goal.specifier::structure-returns-then-not-branch-clause-reads
 specifier::structure-returns-then-not-branch-clause-reads t c =
@@ -564,9 +564,9 @@ specifier::structure-returns-then-not-branch-clause-reads t c =
 
 pub specifier::enumeration-returns-then-branch-clause-reads : goal.specifier::enumeration-returns-then-branch-clause-reads
 specifier::enumeration-returns-then-branch-clause-reads t c =
-    each_ok c.enumeration_body-2.result
+    each_ok c.enumeration_body-then-branch.result
     (λ s r. behind_read r (up_to (followed c.in_ok-place.ensures.reads c.place.ensures.same (into c.leads_to.ensures.same c.in_ok-leads_to.ensures.rest c.in_ok-tag.ensures.reads)) c.in_ok-option.ensures.rest)
-    (c.option.ensures.same ∙ c.tag.ensures.same ∙ c.leads_to.ensures.same ∙ c.place.ensures.same)) c.enumeration_body-2.ensures.reads
+    (c.option.ensures.same ∙ c.tag.ensures.same ∙ c.leads_to.ensures.same ∙ c.place.ensures.same)) c.enumeration_body-then-branch.ensures.reads
 
 pub specifier::enumeration-returns-then-not-branch-clause-reads : goal.specifier::enumeration-returns-then-not-branch-clause-reads
 specifier::enumeration-returns-then-not-branch-clause-reads t c =
@@ -596,18 +596,18 @@ enumerations::enumeration_body-loop-after-preserved t c =
     let is_another : c.loop-after.after ≡ Another = search rules in
     let fewer = c.in_ok-next.ensures.shorter in
     let before = c.loop-after.invariant.shorter in
-    let behind = c.in_ok-after_enumerator.ensures.shorter in
+    let behind = c.in_ok-after-2.ensures.shorter in
     record {
       same = c.after_enumerator-in-loop-after.ensures.same ∙ c.enumerator-in-loop-after.ensures.same ∙ c.loop-after.invariant.same;
-      next = c.in_ok-after_enumerator.ensures.next
-          ∙ ap (λ (xs : List ℕ). after_next c.in_ok-after_enumerator.field-0 (only N.MoreEnumeratorsName) (drop 1 xs))
+      next = c.in_ok-after-2.ensures.next
+          ∙ ap (λ (xs : List ℕ). after_next c.in_ok-after-2.after (only N.MoreEnumeratorsName) (drop 1 xs))
           (c.in_ok-next.ensures.next ∙ ap (drop 2) (c.loop-after.invariant.next ∙ ap (λ (a : After). after_next a (only N.MoreEnumeratorsName) (class_number T.RightBrace ∷ drop 1 c.args.reader.now.pending)) is_another));
       shorter = omega arith;
       some = grind arith;
       grouped = subst AreEnumerators (grown enumerator_view enumerators_of c.loop-after.enumerators.items c.push-in-loop-after.new.self.items c.in_ok-next.next c.in_ok-push-2.ensures.items)
           (enumerators_grouped (map enumerator_view c.loop-after.enumerators.items) (enumerator_view c.in_ok-next.next) c.loop-after.invariant.grouped c.in_ok-next.ensures.grouped);
       reads = subst (λ (ps : List Piece). Reads (any T.LeftBrace ∷ ps) c.args.reader.now c.after_enumerator-in-loop-after.new.reader)
-          (enumerators_pushed c.loop-after.enumerators.items c.push-in-loop-after.new.self.items c.in_ok-next.next (comma_pieces c.in_ok-after_enumerator.field-0) c.loop-after.invariant.some c.in_ok-push-2.ensures.items)
+          (enumerators_pushed c.loop-after.enumerators.items c.push-in-loop-after.new.self.items c.in_ok-next.next (comma_pieces c.in_ok-after-2.after) c.loop-after.invariant.some c.in_ok-push-2.ensures.items)
           (followed (subst (λ (a : After). Reads (any T.LeftBrace ∷ spelled.enumerators (enumerators_of (map enumerator_view c.loop-after.enumerators.items)) ++ comma_pieces a) c.args.reader.now c.loop-after.reader) is_another c.loop-after.invariant.reads)
-          c.loop-after.invariant.same (followed c.in_ok-next.ensures.reads c.enumerator-in-loop-after.ensures.same c.in_ok-after_enumerator.ensures.reads));
+          c.loop-after.invariant.same (followed c.in_ok-next.ensures.reads c.enumerator-in-loop-after.ensures.same c.in_ok-after-2.ensures.reads));
     }

@@ -47,20 +47,20 @@ list-loop-after-preserved t c =
     let is_another : c.loop-after.after ≡ Another = search rules in
     let fewer = c.in_ok-next.ensures.shorter in
     let before = c.loop-after.invariant.shorter in
-    let behind = c.in_ok-after_initializer.ensures.shorter in
+    let behind = c.in_ok-after-2.ensures.shorter in
     record {
       same = c.after_initializer-in-loop-after.ensures.same ∙ c.initializer-in-loop-after.ensures.same ∙ c.loop-after.invariant.same;
-      next = c.in_ok-after_initializer.ensures.next
-          ∙ ap (λ (xs : List ℕ). after_next c.in_ok-after_initializer.field-0 (only N.MoreInitializersValue) (drop 1 xs))
+      next = c.in_ok-after-2.ensures.next
+          ∙ ap (λ (xs : List ℕ). after_next c.in_ok-after-2.after (only N.MoreInitializersValue) (drop 1 xs))
           (c.in_ok-next.ensures.next ∙ ap (drop 1) (c.loop-after.invariant.next ∙ ap (λ (a : After). after_next a (only N.MoreInitializersValue) (drop 3 c.args.reader.now.pending)) is_another));
       shorter = omega arith;
       some = grind arith;
       grouped = subst AreGroupedInitializers (grown initializer_view initializers_of c.loop-after.items.items c.push-in-loop-after.new.self.items c.in_ok-next.next c.in_ok-push-2.ensures.items)
           (initializers_grouped (map initializer_view c.loop-after.items.items) (initializer_view c.in_ok-next.next) c.loop-after.invariant.grouped c.in_ok-next.ensures.grouped);
       reads = subst (λ (ps : List Piece). Reads (at T.LeftBrace c.in_ok-place.place ∷ ps) c.args.reader.now c.after_initializer-in-loop-after.new.reader)
-          (initializers_pushed c.loop-after.items.items c.push-in-loop-after.new.self.items c.in_ok-next.next (comma_pieces c.in_ok-after_initializer.field-0) c.loop-after.invariant.some c.in_ok-push-2.ensures.items)
+          (initializers_pushed c.loop-after.items.items c.push-in-loop-after.new.self.items c.in_ok-next.next (comma_pieces c.in_ok-after-2.after) c.loop-after.invariant.some c.in_ok-push-2.ensures.items)
           (followed (subst (λ (a : After). Reads (at T.LeftBrace c.in_ok-place.place ∷ spelled.initializers (initializers_of (map initializer_view c.loop-after.items.items)) ++ comma_pieces a) c.args.reader.now c.loop-after.reader) is_another c.loop-after.invariant.reads)
-          c.loop-after.invariant.same (followed c.in_ok-next.ensures.reads c.initializer-in-loop-after.ensures.same c.in_ok-after_initializer.ensures.reads));
+          c.loop-after.invariant.same (followed c.in_ok-next.ensures.reads c.initializer-in-loop-after.ensures.same c.in_ok-after-2.ensures.reads));
     }
 
 pub list-place-2-requires : goal.list-place-2-requires
