@@ -356,7 +356,7 @@ operands::arguments-loop-arguments-init t c =
       grouped = subst AreArguments (first_pushed expression_view expressions_of c.new-arguments.result.items c.push.new.self.items c.in_ok-first.first c.new-arguments.ensures.items c.in_ok-push.ensures.items) (c.in_ok-first.ensures.grouped, tt);
       reads = subst (λ (ps : List Piece). Reads ps c.args.reader.now c.conditional.new.reader)
           (sym (append-nil _) ∙ first_pushed expression_view (λ (ds : List Expressions.ExpressionData). spelled.arguments (expressions_of ds)) c.new-arguments.result.items c.push.new.self.items c.in_ok-first.first c.new-arguments.ensures.items c.in_ok-push.ensures.items)
-          (search rules);
+          (into c.option.ensures.same c.in_ok-option.ensures.rest c.in_ok-first.ensures.reads);
     }
 
 pub operands::arguments-loop-arguments-preserved : goal.operands::arguments-loop-arguments-preserved
@@ -388,7 +388,7 @@ specifier::specifiers-loop-specifiers-init t c =
       grouped = subst AreSpecifiers (first_pushed specifier_view specifiers_of c.new-specifiers.result.items c.push.new.self.items c.in_ok-first.first c.new-specifiers.ensures.items c.in_ok-push.ensures.items) (c.in_ok-first.ensures.grouped, tt);
       reads = subst (λ (ps : List Piece). Reads ps c.args.reader.now c.specifier.new.reader)
           (sym (append-nil _) ∙ first_pushed specifier_view (λ (ds : List Expressions.SpecifierData). spelled.specifiers (specifiers_of ds)) c.new-specifiers.result.items c.push.new.self.items c.in_ok-first.first c.new-specifiers.ensures.items c.in_ok-push.ensures.items)
-          (search rules);
+          (into c.open.ensures.same c.in_ok-open.ensures.rest c.in_ok-first.ensures.reads);
     }
 
 pub specifier::specifiers-loop-specifiers-preserved : goal.specifier::specifiers-loop-specifiers-preserved
@@ -421,7 +421,7 @@ structures::member_declarators-loop-declarators-init t c =
       grouped = subst AreDeclarators (first_pushed declarator_view declarators_of c.new-declarators.result.items c.push.new.self.items c.in_ok-first.first c.new-declarators.ensures.items c.in_ok-push.ensures.items) (c.in_ok-first.ensures.grouped, tt);
       reads = subst (λ (ps : List Piece). Reads ps c.args.reader.now c.member.new.reader)
           (sym (append-nil _) ∙ first_pushed declarator_view (λ (ds : List Expressions.DeclaratorData). spelled.declarators (declarators_of ds)) c.new-declarators.result.items c.push.new.self.items c.in_ok-first.first c.new-declarators.ensures.items c.in_ok-push.ensures.items)
-          (search rules);
+          c.in_ok-first.ensures.reads;
     }
 
 pub structures::member_declarators-loop-declarators-preserved : goal.structures::member_declarators-loop-declarators-preserved
