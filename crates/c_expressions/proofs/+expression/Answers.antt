@@ -1,4 +1,4 @@
-use Rattle.std.proofs.Common.{◌≡◌, ◌≢◌, ◌∙◌, ◌<◌, ◌≤◌, ◌+◌, ◌*◌, ℕ, List, [], ◌∷◌, ◌++◌, map, take, drop, length, sym, ap, subst, arith, append_assoc, append-nil, rules}
+use Rattle.std.proofs.Common.{◌≡◌, ◌≢◌, ◌∙◌, ◌<◌, ◌≤◌, ◌+◌, ◌*◌, ℕ, List, [], ◌∷◌, ◌++◌, map, take, drop, length, sym, ap, subst, arith, append-nil, rules}
 use Rattle.c_lexer.specs.TokenClasses.{class_number}
 use Rattle.c_lexer.specs.declared.token_class.TokenClass.{TokenClass}
 use Rattle.c_lexer.specs.declared.token_class.TokenClass.TheVariants as T
@@ -18,11 +18,12 @@ use Rattle.c_expressions.specs.Nodes.{is_trailing}
 use Rattle.c_expressions.specs.Parts.{comma_pieces, after_next}
 use Rattle.c_expressions.specs.declared.elements.After.{After}
 use Rattle.c_expressions.specs.declared.elements.After.TheVariants.{Another}
+use Rattle.c_expressions.proofs.Bodies.{enumeration_behind, structure_behind}
 use Rattle.c_expressions.proofs.Chains.{spelled_chained, chained_binds, chained_grouped, spelled_postfixed, postfixed_binds, postfixed_grouped}
 use Rattle.c_expressions.proofs.Chosen.{unary_found, keyword_found, behind_first, drop_two}
 use Rattle.c_expressions.proofs.Growing.{arguments_pushed, arguments_grouped, declarators_pushed, declarators_grouped, enumerators_pushed, enumerators_grouped, has_declarator, has_enumerator, has_specifier, some_seen, sized_push, specifiers_push, specifiers_grouped, grown, operations_pushed, operations_grouped, postfixes_push, postfixes_grouped, bounds_push, bounds_grouped, sizes_push, members_push, members_grouped}
 use Rattle.c_expressions.proofs.Levels.{more_is, goes_on, operand_rank, falls, some_row}
-use Rattle.c_expressions.proofs.Loops.{again, behind_front, behind_read, each_ok, first_pushed, last_next, only_is, placeless, trailing_read}
+use Rattle.c_expressions.proofs.Loops.{again, behind_read, each_ok, first_pushed, last_next, only_is, placeless, trailing_read}
 use Rattle.c_expressions.proofs.+expression.Goals as goal
 
 pub expressions::conditional-returns-clause-reads : goal.expressions::conditional-returns-clause-reads
@@ -455,17 +456,29 @@ structures::member_declarators-returns-clause-some t c =
 
 pub specifier::specifier-keyword-keyword-requires : goal.specifier::specifier-keyword-keyword-requires
 specifier::specifier-keyword-keyword-requires t c =
-    let found = keyword_found c.in_ok-first.first c.in_ok-first.ensures.one c.in_default.not-21 c.in_default.not-22 c.in_default.not-2 c.in_default.not-1 in (found.0, found.1)
+    let no_structure : c.in_ok-first.first ≢ class_number T.Struct = search rules in
+    let no_enumeration : c.in_ok-first.first ≢ class_number T.Enum = search rules in
+    let no_library : c.in_ok-first.first ≢ class_number T.LibraryType = search rules in
+    let no_name : c.in_ok-first.first ≢ class_number T.TypedefName = search rules in
+    let found = keyword_found c.in_ok-first.first c.in_ok-first.ensures.one no_structure no_enumeration no_library no_name in (found.0, found.1)
 
 pub specifier::specifier-word-requires-in_default : goal.specifier::specifier-word-requires-in_default
 specifier::specifier-word-requires-in_default t c =
-    let found = keyword_found c.in_ok-first.first c.in_ok-first.ensures.one c.in_default.not-21 c.in_default.not-22 c.in_default.not-2 c.in_default.not-1 in
+    let no_structure : c.in_ok-first.first ≢ class_number T.Struct = search rules in
+    let no_enumeration : c.in_ok-first.first ≢ class_number T.Enum = search rules in
+    let no_library : c.in_ok-first.first ≢ class_number T.LibraryType = search rules in
+    let no_name : c.in_ok-first.first ≢ class_number T.TypedefName = search rules in
+    let found = keyword_found c.in_ok-first.first c.in_ok-first.ensures.one no_structure no_enumeration no_library no_name in
     let chosen = ap (λ (s : State). s.pending) c.in_ok-first.ensures.moved ∙ ap (λ (xs : List ℕ). xs ++ drop 1 c.args.reader.now.pending) found.2 in
     ap (take 1) chosen ∙ ap (λ (n : ℕ). n ∷ []) c.keyword-keyword.ensures ∙ ap (λ (k : TokenClass). class_number k ∷ []) (sym c.keyword_class.ensures)
 
 pub specifier::specifier-returns-in_ok-word-in_default-clause-next : goal.specifier::specifier-returns-in_ok-word-in_default-clause-next
 specifier::specifier-returns-in_ok-word-in_default-clause-next t c =
-    let found = keyword_found c.in_ok-first.first c.in_ok-first.ensures.one c.in_default.not-21 c.in_default.not-22 c.in_default.not-2 c.in_default.not-1 in
+    let no_structure : c.in_ok-first.first ≢ class_number T.Struct = search rules in
+    let no_enumeration : c.in_ok-first.first ≢ class_number T.Enum = search rules in
+    let no_library : c.in_ok-first.first ≢ class_number T.LibraryType = search rules in
+    let no_name : c.in_ok-first.first ≢ class_number T.TypedefName = search rules in
+    let found = keyword_found c.in_ok-first.first c.in_ok-first.ensures.one no_structure no_enumeration no_library no_name in
     let chosen = ap (λ (s : State). s.pending) c.in_ok-first.ensures.moved ∙ ap (λ (xs : List ℕ). xs ++ drop 1 c.args.reader.now.pending) found.2 in
     c.in_ok-word-in_default.ensures.next ∙ ap (drop 1) chosen
 
@@ -501,8 +514,7 @@ pub structures::structure_body-returns-clause-reads : goal.structures::structure
 structures::structure_body-returns-clause-reads t c =
     record {
       behind = any T.LeftBrace ∷ spelled.members (members_of (map member_view c.loop-members.members.items)) ++ at T.RightBrace c.in_ok-close.close ∷ [];
-      is = ap spelled.specifier c.struct_declaration_of.ensures
-          ∙ append_assoc (at T.Struct c.args.place ∷ spelled.optional_tag c.args.tag) (any T.LeftBrace ∷ spelled.members (members_of (map member_view c.loop-members.members.items))) (at T.RightBrace c.in_ok-close.close ∷ []);
+      is = structure_behind c.struct_declaration_of.ensures;
       reads = followed (up_to c.loop-members.invariant.reads c.in_ok-option.ensures.rest) (c.option.ensures.same ∙ c.loop-members.invariant.same) c.in_ok-close.ensures.reads;
     }
 
@@ -526,8 +538,7 @@ enumerations::enumeration_body-returns-clause-reads t c =
     let last : c.loop-after.after ≢ Another = search rules in
     record {
       behind = any T.LeftBrace ∷ spelled.enumerators (enumerators_of (map enumerator_view c.loop-after.enumerators.items)) ++ spelled.trailing (is_trailing c.loop-after.after) ++ at T.RightBrace c.in_ok-close.close ∷ [];
-      is = ap spelled.specifier c.enum_declaration_of.ensures
-          ∙ behind_front (at T.Enum c.args.place ∷ spelled.optional_tag c.args.tag) (any T.LeftBrace ∷ spelled.enumerators (enumerators_of (map enumerator_view c.loop-after.enumerators.items))) (spelled.trailing (is_trailing c.loop-after.after)) (at T.RightBrace c.in_ok-close.close ∷ []);
+      is = enumeration_behind c.enum_declaration_of.ensures;
       reads = trailing_read c.loop-after.after (any T.LeftBrace) (spelled.enumerators (enumerators_of (map enumerator_view c.loop-after.enumerators.items))) last c.loop-after.invariant.reads c.loop-after.invariant.same c.in_ok-close.ensures.reads;
     }
 
