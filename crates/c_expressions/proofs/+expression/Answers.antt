@@ -78,7 +78,7 @@ expressions::binary-loop-rest-preserved t c =
       reads = subst (λ (ps : List Piece). Reads ps c.args.reader.now c.operand-in-loop-rest.new.reader)
           (operations_pushed (spelled.expression (expression_view c.in_ok-first.first)) c.loop-rest.rest.items c.push.new.self.items c.in_ok-operation_of.field-0 c.in_ok-place.place c.in_ok-operator.operator
           c.binary_class.result c.in_ok-right.right c.in_ok-push.ensures.items c.in_ok-operation_of.ensures c.binary_class.ensures)
-          (followed (up_to (up_to c.loop-rest.invariant.reads c.in_ok-option.ensures.rest) c.in_ok-operator.ensures.rest) to_operator
+          (followed (up_to {c = c.operator.new.reader} (up_to {c = c.option.new.self} c.loop-rest.invariant.reads c.in_ok-option.ensures.rest) c.in_ok-operator.ensures.rest) to_operator
           (followed c.in_ok-place.ensures.reads c.place.ensures.same c.in_ok-right.ensures.reads));
     }
 
@@ -181,7 +181,7 @@ operands::bracketed-returns-clause-reads t c =
     let inner = c.in_ok-parenthesized.ensures in
     subst (λ (d : Expressions.ExpressionData). Reads (spelled.expression d) c.args.reader.now c.postfixes.new.reader) (sym c.in_ok-postfix_of.ensures)
     (subst (λ (ps : List Piece). Reads ps c.args.reader.now c.postfixes.new.reader) (sym (spelled_postfixed (expression_view c.in_ok-parenthesized.parenthesized) _))
-    (subst (λ (d : Expressions.ExpressionData). Reads (spelled.expression d ++ _) c.args.reader.now c.postfixes.new.reader) (sym inner)
+    (subst (λ (d : Expressions.ExpressionData). Reads (spelled.expression d ++ spelled.postfixes (postfixes_of (map postfix_view c.in_ok-postfixes.postfixes.items))) c.args.reader.now c.postfixes.new.reader) (sym inner)
     (followed (placeless (followed c.in_ok-place.ensures.reads c.place.ensures.same (into c.leads_to.ensures.same c.in_ok-leads_to.ensures.rest (followed c.in_ok-inner.ensures.reads c.conditional.ensures.same (c.in_ok-pass-2.ensures.reads)))))
     (c.pass-2.ensures.same ∙ c.conditional.ensures.same ∙ c.leads_to.ensures.same ∙ c.place.ensures.same) c.in_ok-postfixes.ensures.reads)))
 
