@@ -1,7 +1,8 @@
-use Rattle.std.proofs.Common.{◌≡◌, ◌≢◌, ◌∙◌, ◌<◌, ◌≤◌, ◌+◌, ◌*◌, ℕ, List, [], ◌∷◌, ◌++◌, map, take, drop, length, sym, ap, subst, arith, append-nil, rules}
+use Rattle.std.proofs.Common.{◌≡◌, ◌≢◌, ◌∙◌, ◌<◌, ◌≤◌, ◌+◌, ◌*◌, ℕ, List, [], ◌∷◌, ◌++◌, map, take, drop, length, sym, ap, subst, arith, append-nil, rules, Option}
 use Rattle.c_lexer.specs.TokenClasses.{class_number}
 use Rattle.c_lexer.specs.declared.token_class.TokenClass.{TokenClass}
 use Rattle.c_lexer.specs.declared.token_class.TokenClass.TheVariants as T
+use Rattle.c_tree.specs.declared.expression.Word.{Word}
 use Rattle.c_tree.specs.Expressions
 use Rattle.c_tree.specs.Views.{OneEnumerator, OneMember, bound_view, bounds_of, declarator_view, declarators_of, enumerator_view, enumerators_of, expression_view, expressions_of, member_view, members_of, operation_view, operations_of, postfix_view, postfixes_of, specifier_view, specifiers_of}
 use Rattle.c_tables.specs.declared.nonterminal.Nonterminal.{Nonterminal}
@@ -336,6 +337,7 @@ structures::structure_body-loop-members-preserved t c =
     let same_rest = ap length c.in_ok-option.ensures.rest in
     let before = c.loop-members.invariant.shorter in
     record {
+      tag = c.loop-members.invariant.tag;
       same = c.member_declaration.ensures.same ∙ c.option.ensures.same ∙ c.loop-members.invariant.same;
       next = again N.MembersDeclarations 4 c.loop-members.reader c.option.new.self c.member_declaration.new.reader c.in_ok-option.field-0 (class_number T.RightBrace ∷ drop 1 c.args.reader.now.pending) c.if-branch.true c.in_ok-option.ensures.moved c.in_ok-next.ensures.next c.loop-members.invariant.next;
       shorter = omega arith;
@@ -514,7 +516,8 @@ pub structures::structure_body-returns-clause-reads : goal.structures::structure
 structures::structure_body-returns-clause-reads t c =
     record {
       behind = any T.LeftBrace ∷ spelled.members (members_of (map member_view c.loop-members.members.items)) ++ at T.RightBrace c.in_ok-close.close ∷ [];
-      is = structure_behind c.struct_declaration_of.ensures;
+      is = structure_behind c.struct_declaration_of.ensures
+          ∙ ap (λ (tag : Option Word). (at T.Struct c.args.place ∷ spelled.optional_tag tag) ++ (any T.LeftBrace ∷ spelled.members (members_of (map member_view c.loop-members.members.items)) ++ at T.RightBrace c.in_ok-close.close ∷ [])) c.loop-members.invariant.tag;
       reads = followed (up_to c.loop-members.invariant.reads c.in_ok-option.ensures.rest) (c.option.ensures.same ∙ c.loop-members.invariant.same) c.in_ok-close.ensures.reads;
     }
 
@@ -538,7 +541,8 @@ enumerations::enumeration_body-returns-clause-reads t c =
     let last : c.loop-after.after ≢ Another = search rules in
     record {
       behind = any T.LeftBrace ∷ spelled.enumerators (enumerators_of (map enumerator_view c.loop-after.enumerators.items)) ++ spelled.trailing (is_trailing c.loop-after.after) ++ at T.RightBrace c.in_ok-close.close ∷ [];
-      is = enumeration_behind c.enum_declaration_of.ensures;
+      is = enumeration_behind c.enum_declaration_of.ensures
+          ∙ ap (λ (tag : Option Word). (at T.Enum c.args.place ∷ spelled.optional_tag tag) ++ (any T.LeftBrace ∷ spelled.enumerators (enumerators_of (map enumerator_view c.loop-after.enumerators.items)) ++ spelled.trailing (is_trailing c.loop-after.after) ++ at T.RightBrace c.in_ok-close.close ∷ [])) c.loop-after.invariant.tag;
       reads = trailing_read c.loop-after.after (any T.LeftBrace) (spelled.enumerators (enumerators_of (map enumerator_view c.loop-after.enumerators.items))) last c.loop-after.invariant.reads c.loop-after.invariant.same c.in_ok-close.ensures.reads;
     }
 
@@ -590,6 +594,7 @@ enumerations::enumeration_body-loop-after-init t c =
     let behind = c.in_ok-after.ensures.shorter in
     let same_rest = ap length c.in_ok-open.ensures.rest in
     record {
+      tag = search rules;
       same = search rules;
       next = c.in_ok-after.ensures.next
           ∙ ap (λ (xs : List ℕ). after_next c.in_ok-after.after (only N.MoreEnumeratorsName) (drop 1 xs))
@@ -609,6 +614,7 @@ enumerations::enumeration_body-loop-after-preserved t c =
     let before = c.loop-after.invariant.shorter in
     let behind = c.in_ok-after-2.ensures.shorter in
     record {
+      tag = c.loop-after.invariant.tag;
       same = c.after_enumerator-in-loop-after.ensures.same ∙ c.enumerator-in-loop-after.ensures.same ∙ c.loop-after.invariant.same;
       next = c.in_ok-after-2.ensures.next
           ∙ ap (λ (xs : List ℕ). after_next c.in_ok-after-2.after (only N.MoreEnumeratorsName) (drop 1 xs))

@@ -144,6 +144,7 @@ decreases-specifier::specifiers-loop-specifiers l = length l.reader.rest
 
 abbrev pub invariant-structures::structure_body-loop-members : goal.invariant-structures::structure_body-loop-members
 invariant-structures::structure_body-loop-members l = record {
+  tag : l.tag ≡ l.fn.tag;
   same : l.reader.source ≡ l.fn.reader.source;
   next : l.reader.pending ≡ left_side N.MembersDeclarations ∷ class_number T.RightBrace ∷ drop 1 l.fn.reader.pending;
   shorter : length l.reader.rest < length l.fn.reader.rest;
@@ -183,6 +184,7 @@ decreases-structures::member_bounds-loop-bounds l = length l.reader.rest
 
 abbrev pub invariant-enumerations::enumeration_body-loop-after : goal.invariant-enumerations::enumeration_body-loop-after
 invariant-enumerations::enumeration_body-loop-after l = record {
+  tag : l.tag ≡ l.fn.tag;
   same : l.reader.source ≡ l.fn.reader.source;
   next : l.reader.pending ≡ after_next l.after (only N.MoreEnumeratorsName) (class_number T.RightBrace ∷ drop 1 l.fn.reader.pending);
   shorter : length l.reader.rest < length l.fn.reader.rest;
