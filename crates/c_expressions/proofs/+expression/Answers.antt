@@ -474,44 +474,6 @@ specifier::specifier-word-requires-in_default t c =
     let chosen = ap (λ (s : State). s.pending) c.in_ok-first.ensures.moved ∙ ap (λ (xs : List ℕ). xs ++ drop 1 c.args.reader.now.pending) found.2 in
     ap (take 1) chosen ∙ ap (λ (n : ℕ). n ∷ []) c.keyword-keyword.ensures ∙ ap (λ (k : TokenClass). class_number k ∷ []) (sym c.keyword_class.ensures)
 
-pub specifier::specifier-returns-in_ok-word-in_default-clause-next : goal.specifier::specifier-returns-in_ok-word-in_default-clause-next
-specifier::specifier-returns-in_ok-word-in_default-clause-next t c =
-    let no_structure : c.in_ok-first.first ≢ class_number T.Struct = search rules in
-    let no_enumeration : c.in_ok-first.first ≢ class_number T.Enum = search rules in
-    let no_library : c.in_ok-first.first ≢ class_number T.LibraryType = search rules in
-    let no_name : c.in_ok-first.first ≢ class_number T.TypedefName = search rules in
-    let found = keyword_found c.in_ok-first.first c.in_ok-first.ensures.one no_structure no_enumeration no_library no_name in
-    let chosen = ap (λ (s : State). s.pending) c.in_ok-first.ensures.moved ∙ ap (λ (xs : List ℕ). xs ++ drop 1 c.args.reader.now.pending) found.2 in
-    c.in_ok-word-in_default.ensures.next ∙ ap (drop 1) chosen
-
-pub specifier::specifier-returns-in_ok-word-in_default-clause-reads : goal.specifier::specifier-returns-in_ok-word-in_default-clause-reads
-specifier::specifier-returns-in_ok-word-in_default-clause-reads t c =
-    subst (λ (d : Expressions.SpecifierData). Reads (spelled.specifier d) c.args.reader.now c.word-in_default.new.self) (sym c.keyword_of.ensures)
-    (subst (λ (k : TokenClass). Reads (word k c.in_ok-word-in_default.word ∷ []) c.args.reader.now c.word-in_default.new.self) c.keyword_class.ensures
-    (into c.choose.ensures.same c.in_ok-first.ensures.rest c.in_ok-word-in_default.ensures.reads))
-
-pub specifier::specifier-returns-in_ok-word-in-2-clause-reads : goal.specifier::specifier-returns-in_ok-word-in-2-clause-reads
-specifier::specifier-returns-in_ok-word-in-2-clause-reads t c =
-    subst (λ (d : Expressions.SpecifierData). Reads (spelled.specifier d) c.args.reader.now c.word.new.self) (sym c.library_type_of.ensures)
-    (into c.choose.ensures.same c.in_ok-first.ensures.rest c.in_ok-word-in-2.ensures.reads)
-
-pub specifier::specifier-returns-in_ok-word-in-1-clause-reads : goal.specifier::specifier-returns-in_ok-word-in-1-clause-reads
-specifier::specifier-returns-in_ok-word-in-1-clause-reads t c =
-    subst (λ (d : Expressions.SpecifierData). Reads (spelled.specifier d) c.args.reader.now c.word-in-1.new.self) (sym c.typedef_name_of.ensures)
-    (into c.choose.ensures.same c.in_ok-first.ensures.rest c.in_ok-word-in-1.ensures.reads)
-
-pub specifier::specifier-returns-in_ok-word-in-2-clause-grouped : goal.specifier::specifier-returns-in_ok-word-in-2-clause-grouped
-specifier::specifier-returns-in_ok-word-in-2-clause-grouped t c =
-    subst IsSpecifier (sym c.library_type_of.ensures) tt
-
-pub specifier::specifier-returns-in_ok-word-in-1-clause-grouped : goal.specifier::specifier-returns-in_ok-word-in-1-clause-grouped
-specifier::specifier-returns-in_ok-word-in-1-clause-grouped t c =
-    subst IsSpecifier (sym c.typedef_name_of.ensures) tt
-
-pub specifier::specifier-returns-in_ok-word-in_default-clause-grouped : goal.specifier::specifier-returns-in_ok-word-in_default-clause-grouped
-specifier::specifier-returns-in_ok-word-in_default-clause-grouped t c =
-    subst IsSpecifier (sym c.keyword_of.ensures) tt
-
 pub structures::structure_body-returns-clause-reads : goal.structures::structure_body-returns-clause-reads
 structures::structure_body-returns-clause-reads t c =
     record {
