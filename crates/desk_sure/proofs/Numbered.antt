@@ -9,10 +9,12 @@ use Rattle.std.proofs.lemmas.List.{map_push}
 use Rattle.std.proofs.lemmas.Nat.{from_be_bytes-to_be_bytes_4}
 use Rattle.std.proofs.lemmas.Slice.Eq.{bytes_eq-Decides}
 use Rattle.misra_base.specs.declared.deviation.FirstDeviation.{FirstDeviation}
+use Rattle.misra_base.specs.declared.permit.Permit.{Permit}
 use Rattle.desk_tables.specs.Keys.{are_keyed}
-use Rattle.desk_tables.specs.Tables.{is_deviation, same_request}
+use Rattle.desk_tables.specs.Tables.{is_deviation, is_named, is_permit, same_request}
 use Rattle.desk_tables.specs.declared.rows.DeviationRow.{DeviationRow}
 use Rattle.desk_tables.specs.declared.rows.KeptRow.{KeptRow}
+use Rattle.desk_tables.specs.declared.rows.ProjectRow.{ProjectRow}
 use Rattle.desk_memory.specs.First.{deviation_row}
 
 and_left : (a b : Bool) → (a && b) ≡ true → a ≡ true
@@ -97,6 +99,40 @@ kept_more rows row i lt is so_far =
     record {
       keyed = keyed_more same_request request_number same_number rows row i number_is so_far.keyed so_far.below;
       below = below_more same_request request_number same_number rows row i number_is so_far.below;
+    }
+
+-- names are numbers of four bytes
+same_name : (a b : List ℕ) → bytes_eq b a ≡ true → from_be_bytes w32 a ≡ from_be_bytes w32 b
+same_name a b e = ap (from_be_bytes w32) (sym ((bytes_eq-Decides b a).0 e))
+
+abbrev pub same_project : ProjectRow → ProjectRow → Bool
+same_project a b = is_named a.name b
+
+abbrev pub project_number : ProjectRow → ℕ
+project_number row = from_be_bytes w32 row.name
+
+pub projects_more : (rows : List ProjectRow) (row : ProjectRow) (i : ℕ) → i < 2 ^ 32 → row.name ≡ to_be_bytes w32 i → AreNumbered same_project project_number i rows
+    → AreNumbered same_project project_number (i + 1) (rows ++ row ∷ [])
+projects_more rows row i lt is so_far =
+    let number_is : project_number row ≡ i = ap (from_be_bytes w32) is ∙ from_be_bytes-to_be_bytes_4 i lt in
+    record {
+      keyed = keyed_more same_project project_number (λ a b. same_name a.name b.name) rows row i number_is so_far.keyed so_far.below;
+      below = below_more same_project project_number (λ a b. same_name a.name b.name) rows row i number_is so_far.below;
+    }
+
+abbrev pub same_permit : Permit → Permit → Bool
+same_permit a b = is_permit a.name b
+
+abbrev pub permit_number : Permit → ℕ
+permit_number row = from_be_bytes w32 row.name
+
+pub permits_more : (rows : List Permit) (row : Permit) (i : ℕ) → i < 2 ^ 32 → row.name ≡ to_be_bytes w32 i → AreNumbered same_permit permit_number i rows
+    → AreNumbered same_permit permit_number (i + 1) (rows ++ row ∷ [])
+permits_more rows row i lt is so_far =
+    let number_is : permit_number row ≡ i = ap (from_be_bytes w32) is ∙ from_be_bytes-to_be_bytes_4 i lt in
+    record {
+      keyed = keyed_more same_permit permit_number (λ a b. same_name a.name b.name) rows row i number_is so_far.keyed so_far.below;
+      below = below_more same_permit permit_number (λ a b. same_name a.name b.name) rows row i number_is so_far.below;
     }
 
 abbrev pub same_deviation : DeviationRow → DeviationRow → Bool

@@ -58,8 +58,9 @@ fn summary_words(
                 uncovered,
                 deviated,
             } = *row;
-            let words =
-                format!(in alloc; " {guideline} {category} {level} {uncovered} {deviated}")?;
+            let words = format!(in alloc;
+                " {guideline} {category} {level} {uncovered} {deviated}"
+            )?;
             line.extend_from_slice(words.as_bytes())?;
         }
     }

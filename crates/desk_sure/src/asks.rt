@@ -180,12 +180,7 @@ fn finding(
     })
 }
 
-fn race(
-    alloc: Global,
-    place: Place,
-    other: Place,
-    function: &str,
-) -> Result<Finding, AllocError> {
+fn race(alloc: Global, place: Place, other: Place, function: &str) -> Result<Finding, AllocError> {
     Ok(Finding {
         guideline: Guideline::D5_1,
         place,

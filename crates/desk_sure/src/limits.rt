@@ -1,9 +1,8 @@
 //! The limits of refusal 14.
 use crate::answers::answer;
 use crate::asks::{caller, creations, name};
-use crate::first_rows::{first_deviations, keeper_with, kept_rows};
+use crate::first_rows::{first_deviations, keeper_of, keeper_with, kept_rows};
 use desk_core::act;
-use desk_memory::SureKeeper;
 use desk_tables::{Command, Keeper};
 use misra_base::{Guideline, Name, NameList, Report};
 use std::alloc::{AllocError, Global};
@@ -47,7 +46,10 @@ fn answered<K: Keeper>(
         Command::Submit { .. } => Some(&report),
         _ => None,
     };
-    answer(alloc, &act(alloc, keeper, &asks, Some(&request), command, handed))
+    answer(
+        alloc,
+        &act(alloc, keeper, &asks, Some(&request), command, handed),
+    )
 }
 
 fn submission(alloc: Global) -> Result<Command, AllocError> {
@@ -71,14 +73,12 @@ fn raising(alloc: Global) -> Result<Command, AllocError> {
 #[test]
 fn a_caller_makes_256_projects(rt: HostRuntime) -> Result<(), Fail> {
     let alloc = rt.alloc();
-    let mut keeper = SureKeeper::new(alloc);
-    for number in 1..257 {
-        let words = answered(alloc, &mut keeper, "ann", number, &making(alloc, number)?)?;
-        assert!(rt; words.starts_with(b"made "), "{number}");
-    }
+    let mut keeper = keeper_of(alloc, 255, 0)?;
+    let words = answered(alloc, &mut keeper, "ann", 256, &making(alloc, 256)?)?;
+    assert_eq!(rt; words.as_slice(), b"made p256".as_slice());
     let words = answered(alloc, &mut keeper, "ann", 257, &making(alloc, 257)?)?;
     assert_eq!(rt; words.as_slice(), b"14 256".as_slice());
-    let words = answered(alloc, &mut keeper, "ann", 257, &making(alloc, 1)?)?;
+    let words = answered(alloc, &mut keeper, "ann", 257, &making(alloc, 256)?)?;
     assert_eq!(rt; words.as_slice(), b"2 NameTaken".as_slice());
     let words = answered(alloc, &mut keeper, "ben", 257, &making(alloc, 257)?)?;
     assert_eq!(rt; words.as_slice(), b"made p257".as_slice());
@@ -88,13 +88,13 @@ fn a_caller_makes_256_projects(rt: HostRuntime) -> Result<(), Fail> {
 #[test]
 fn a_caller_makes_1024_permits(rt: HostRuntime) -> Result<(), Fail> {
     let alloc = rt.alloc();
-    let mut keeper = SureKeeper::new(alloc);
-    for number in 1..1025 {
-        let words = answered(alloc, &mut keeper, "ann", number, &permitting(alloc, number)?)?;
-        assert!(rt; words.starts_with(b"made "), "{number}");
-    }
+    let mut keeper = keeper_of(alloc, 0, 1023)?;
+    let words = answered(alloc, &mut keeper, "ann", 1024, &permitting(alloc, 1024)?)?;
+    assert_eq!(rt; words.as_slice(), b"made p1024".as_slice());
     let words = answered(alloc, &mut keeper, "ann", 1025, &permitting(alloc, 1025)?)?;
     assert_eq!(rt; words.as_slice(), b"14 1024".as_slice());
+    let words = answered(alloc, &mut keeper, "ann", 1025, &permitting(alloc, 1024)?)?;
+    assert_eq!(rt; words.as_slice(), b"2 NameTaken".as_slice());
     let words = answered(alloc, &mut keeper, "ben", 1025, &permitting(alloc, 1025)?)?;
     assert_eq!(rt; words.as_slice(), b"made p1025".as_slice());
     Ok(())
@@ -103,7 +103,12 @@ fn a_caller_makes_1024_permits(rt: HostRuntime) -> Result<(), Fail> {
 #[test]
 fn a_project_has_1000000_revisions(rt: HostRuntime) -> Result<(), Fail> {
     let alloc = rt.alloc();
-    let mut keeper = keeper_with(alloc, 999_999, first_deviations(alloc, 0)?, kept_rows(alloc, 0)?)?;
+    let mut keeper = keeper_with(
+        alloc,
+        999_999,
+        first_deviations(alloc, 0)?,
+        kept_rows(alloc, 0)?,
+    )?;
     let words = answered(alloc, &mut keeper, "ann", 1, &submission(alloc)?)?;
     assert_eq!(rt; words.as_slice(), b"revision 1000000 5".as_slice());
     let words = answered(alloc, &mut keeper, "ann", 2, &submission(alloc)?)?;
@@ -114,7 +119,12 @@ fn a_project_has_1000000_revisions(rt: HostRuntime) -> Result<(), Fail> {
 #[test]
 fn a_project_has_10000_deviations(rt: HostRuntime) -> Result<(), Fail> {
     let alloc = rt.alloc();
-    let mut keeper = keeper_with(alloc, 1, first_deviations(alloc, 9_999)?, kept_rows(alloc, 0)?)?;
+    let mut keeper = keeper_with(
+        alloc,
+        1,
+        first_deviations(alloc, 9_999)?,
+        kept_rows(alloc, 0)?,
+    )?;
     let words = answered(alloc, &mut keeper, "ann", 1, &raising(alloc)?)?;
     assert_eq!(rt; words.as_slice(), b"raised 10000".as_slice());
     let words = answered(alloc, &mut keeper, "ann", 2, &raising(alloc)?)?;
