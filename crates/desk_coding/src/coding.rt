@@ -3,7 +3,7 @@ ghost use Rattle.std.specs.Prelude.{◌≡◌, true, IfOk};
 ghost use Rattle.desk_tables.specs.Keepable.{is_keepable, keeps_rightly};
 ghost use Rattle.desk_coding.specs.Codings.{whole};
 ghost use Rattle.desk_coding.specs.Rows as rows;
-ghost use Rattle.desk_coding.specs.Taking.{Gives, IsOnly, Takes};
+ghost use Rattle.desk_coding.specs.Taking.{Gives, Takes};
 
 use crate::putting_rows::{put_all, put_row};
 use crate::stop::TakeStop;

@@ -118,10 +118,7 @@ pub fn put_entries(out: &mut Vec<u8>, entries: &EntryList) -> Result<(), AllocEr
     put_each_entry(out, entries.items())
 }
 
-fn put_each_entry(
-    out: &mut Vec<u8>,
-    entries: &[(Guideline, Category)],
-) -> Result<(), AllocError>
+fn put_each_entry(out: &mut Vec<u8>, entries: &[(Guideline, Category)]) -> Result<(), AllocError>
     ensures written { OnOk result (out.new.items ≡ out.old.items ++ flat_map parts.entry.written entries.now) }
     ensures fits { OnOk result (list_all parts.entry.fits entries.now ≡ true) }
 {

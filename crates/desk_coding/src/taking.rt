@@ -159,7 +159,11 @@ pub fn take_entries(alloc: Global, bytes: &[u8]) -> Result<(EntryList, &[u8]), T
     Ok((EntryList::from_vec(entries), rest))
 }
 
-fn take_each_entry(alloc: Global, count: u64, bytes: &[u8]) -> Result<(Vec<(Guideline, Category)>, &[u8]), TakeStop>
+fn take_each_entry(
+    alloc: Global,
+    count: u64,
+    bytes: &[u8],
+) -> Result<(Vec<(Guideline, Category)>, &[u8]), TakeStop>
     ensures { Gives (λ x. (x.0.items, x.1.now)) result (many_front parts.entry count bytes.now) }
 {
     let mut entries = Vec::new(alloc);

@@ -77,7 +77,11 @@ pub fn take_findings(alloc: Global, bytes: &[u8]) -> Result<(FindingList, &[u8])
     Ok((FindingList::from_vec(found), rest))
 }
 
-fn take_each_finding(alloc: Global, count: u64, bytes: &[u8]) -> Result<(Vec<Finding>, &[u8]), TakeStop>
+fn take_each_finding(
+    alloc: Global,
+    count: u64,
+    bytes: &[u8],
+) -> Result<(Vec<Finding>, &[u8]), TakeStop>
     ensures { Gives (λ x. (x.0.items, x.1.now)) result (many_front parts.finding count bytes.now) }
 {
     let mut found = Vec::new(alloc);

@@ -190,11 +190,17 @@ fn bytes_that_are_no_row(rt: HostRuntime) -> Result<(), Fail> {
     assert!(rt; take_kept(alloc, &APPROVED)?.is_none(), "there is no reply");
     let mut bytes = Vec::from_slice(alloc, &APPROVED)?;
     bytes.push(4)?;
-    assert!(rt; take_kept(alloc, &bytes)?.is_none(), "no reply that is kept has the number 4");
+    assert!(rt;
+        take_kept(alloc, &bytes)?.is_none(),
+        "no reply that is kept has the number 4"
+    );
     bytes[34] = 3;
     assert!(rt; take_kept(alloc, &bytes)?.is_some());
     bytes.push(0)?;
-    assert!(rt; take_kept(alloc, &bytes)?.is_none(), "a byte stands behind the row");
+    assert!(rt;
+        take_kept(alloc, &bytes)?.is_none(),
+        "a byte stands behind the row"
+    );
     Ok(())
 }
 
