@@ -19,7 +19,7 @@ bytes_behind front rest bytes is fits i =
     let here : drop (length front) bytes ≡ rest = rw is (drop_at front rest (length front) refl) in
     rw (← here, get_or-drop) (fits (length front + i))
 
-bytes_rest : (b : ℕ) (bytes : List ℕ) → IsBytes (b ∷ bytes) → IsBytes bytes
+pub bytes_rest : (b : ℕ) (bytes : List ℕ) → IsBytes (b ∷ bytes) → IsBytes bytes
 bytes_rest b bytes fits i = fits (suc i)
 
 bytes_taken : (n : ℕ) (bytes : List ℕ) → IsBytes bytes → IsBytes (take n bytes)
@@ -79,7 +79,9 @@ again32 : (n : ℕ) (rest : List ℕ) → number32.fits n ≡ true → number32.
 unfolding number32
 again32 n rest fits =
     let long : ltb (length (to_be_bytes w32 n ++ rest)) 4 ≡ false = le-ltb _ _ (omega (arith, length-append (to_be_bytes w32 n) rest)) in
-    rw (long, take_at (to_be_bytes w32 n) rest 4 refl, drop_at (to_be_bytes w32 n) rest 4 refl, from_be_bytes-to_be_bytes_4 n (ltb-true _ _ fits)) refl
+    let value : from_be_bytes w32 (take 4 (to_be_bytes w32 n ++ rest)) ≡ n = ap (from_be_bytes w32) (take_at (to_be_bytes w32 n) rest 4 refl) ∙ from_be_bytes-to_be_bytes_4 n (ltb-true _ _ fits) in
+    let behind : drop 4 (to_be_bytes w32 n ++ rest) ≡ rest = drop_at (to_be_bytes w32 n) rest 4 refl in
+    rw long (ap (λ (k : ℕ). Some (k, drop 4 (to_be_bytes w32 n ++ rest))) value ∙ ap (λ (r : List ℕ). Some (n, r)) behind)
 
 pub exact_number32 : Exact number32
 exact_number32 = record { again = again32; takes = taken32 }
@@ -101,7 +103,9 @@ again64 : (n : ℕ) (rest : List ℕ) → number64.fits n ≡ true → number64.
 unfolding number64
 again64 n rest fits =
     let long : ltb (length (to_be_bytes w64 n ++ rest)) 8 ≡ false = le-ltb _ _ (omega (arith, length-append (to_be_bytes w64 n) rest)) in
-    rw (long, take_at (to_be_bytes w64 n) rest 8 refl, drop_at (to_be_bytes w64 n) rest 8 refl, from_be_bytes-to_be_bytes_8 n (ltb-true _ _ fits)) refl
+    let value : from_be_bytes w64 (take 8 (to_be_bytes w64 n ++ rest)) ≡ n = ap (from_be_bytes w64) (take_at (to_be_bytes w64 n) rest 8 refl) ∙ from_be_bytes-to_be_bytes_8 n (ltb-true _ _ fits) in
+    let behind : drop 8 (to_be_bytes w64 n ++ rest) ≡ rest = drop_at (to_be_bytes w64 n) rest 8 refl in
+    rw long (ap (λ (k : ℕ). Some (k, drop 8 (to_be_bytes w64 n ++ rest))) value ∙ ap (λ (r : List ℕ). Some (n, r)) behind)
 
 pub exact_number64 : Exact number64
 exact_number64 = record { again = again64; takes = taken64 }

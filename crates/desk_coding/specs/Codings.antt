@@ -85,7 +85,7 @@ optional coding = record {
 }
 
 -- so many, one behind the other
-pub many_front : {X : Type 0} → Coding X → ℕ → List ℕ → Option (List X × List ℕ)
+unfoldable pub many_front : {X : Type 0} → Coding X → ℕ → List ℕ → Option (List X × List ℕ)
 many_front coding zero bytes = Some ([], bytes)
 many_front coding (suc n) bytes =
     option_and_then (λ x. option_map (λ xs. (x.0 ∷ xs.0, xs.1)) (many_front coding n x.1)) (coding.front bytes)

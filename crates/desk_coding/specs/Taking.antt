@@ -20,4 +20,4 @@ byte_front (byte ∷ bytes) = Some (byte, bytes)
 -- the value whose coding the bytes are, and None exactly where they are the coding of none
 abbrev pub Takes : {X : Type 0} → Coding X → List ℕ → Option X → Type 0
 Takes coding bytes (Some x) = (coding.fits x ≡ true) × (bytes ≡ coding.written x)
-Takes coding bytes None = (x : X) → coding.fits x ≡ true → bytes ≢ coding.written x
+Takes {X = X} coding bytes None = (x : X) → coding.fits x ≡ true → bytes ≢ coding.written x

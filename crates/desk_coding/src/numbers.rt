@@ -9,9 +9,28 @@ use misra_base::{Category, Form, Guideline, Kind, Status};
 pub fn guideline_at(number: u8) -> Option<Guideline>
     ensures { result ≡ find (λ g. guideline_number g == number) all_guidelines }
 {
-    Guideline::ALL
-        .into_iter()
-        .find(|guideline| guideline.number() == usize::from(number))
+    match number {
+        0 => Some(Guideline::D5_1),
+        1 => Some(Guideline::D5_2),
+        2 => Some(Guideline::D5_3),
+        3 => Some(Guideline::R15_4),
+        4 => Some(Guideline::R15_5),
+        5 => Some(Guideline::R17_7),
+        6 => Some(Guideline::R17_8),
+        7 => Some(Guideline::R21_25),
+        8 => Some(Guideline::R21_26),
+        9 => Some(Guideline::R22_11),
+        10 => Some(Guideline::R22_12),
+        11 => Some(Guideline::R22_13),
+        12 => Some(Guideline::R22_14),
+        13 => Some(Guideline::R22_15),
+        14 => Some(Guideline::R22_16),
+        15 => Some(Guideline::R22_17),
+        16 => Some(Guideline::R22_18),
+        17 => Some(Guideline::R22_19),
+        18 => Some(Guideline::R22_20),
+        _ => None,
+    }
 }
 
 pub fn category_at(number: u8) -> Option<Category>
@@ -51,9 +70,32 @@ pub fn form_at(number: u8) -> Option<Form>
 pub fn kind_at(number: u8) -> Option<Kind>
     ensures { result ≡ find (λ k. kind_place k == number) kind_list }
 {
-    Kind::ALL
-        .into_iter()
-        .find(|kind| kind_number(*kind) == number)
+    match number {
+        0 => Some(Kind::Race),
+        1 => Some(Kind::Cycle),
+        2 => Some(Kind::Outside),
+        3 => Some(Kind::Repeated),
+        4 => Some(Kind::Break),
+        5 => Some(Kind::Return),
+        6 => Some(Kind::Unused),
+        7 => Some(Kind::Parameter),
+        8 => Some(Kind::Order),
+        9 => Some(Kind::Kind),
+        10 => Some(Kind::Again),
+        11 => Some(Kind::Access),
+        12 => Some(Kind::Automatic),
+        13 => Some(Kind::Thread),
+        14 => Some(Kind::Before),
+        15 => Some(Kind::Second),
+        16 => Some(Kind::Dead),
+        17 => Some(Kind::Busy),
+        18 => Some(Kind::End),
+        19 => Some(Kind::Destroyed),
+        20 => Some(Kind::Unlock),
+        21 => Some(Kind::Wait),
+        22 => Some(Kind::Dependent),
+        _ => None,
+    }
 }
 
 pub fn kind_number(kind: Kind) -> u8

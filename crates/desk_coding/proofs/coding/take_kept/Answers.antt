@@ -7,5 +7,5 @@ use Rattle.desk_coding.proofs.coding.take_kept.Goals as goal
 pub returns-in-Ok : goal.returns-in-Ok
 returns-in-Ok c = takes_whole kept exact_kept c.args.bytes.now _ (λ i. omega (arith, c.type_inv.bytes i)) c.in-Ok.ensures
 
-pub returns-in-Err : goal.returns-in-Err
-returns-in-Err c = takes_whole kept exact_kept c.args.bytes.now _ (λ i. omega (arith, c.type_inv.bytes i)) c.in-Err.ensures
+pub returns-in-Err-NoCoding : goal.returns-in-Err-NoCoding
+returns-in-Err-NoCoding c = takes_whole kept exact_kept c.args.bytes.now _ (λ i. omega (arith, c.type_inv.bytes i)) c.in-Err-NoCoding.ensures
