@@ -3,8 +3,11 @@ use crate::asks::Ask;
 use crate::days::Row;
 use misra_base::{Category, Guideline};
 
-/// Each refusal of each command but those of the limits, and each pair of neighbours that can hold at once.
-pub const REFUSALS: [Row; 112] = [
+// Each refusal of each command but those of the limits, and each pair of neighbours that can hold at once: the tables are
+// one desk's requests, in this order.
+
+/// A project and a permit are made, and what is refused of making others.
+pub const PROJECTS_AND_PERMITS: [Row; 17] = [
     ("ann", "1", Ask::Make("p", "ann", "ben"), "made p"),
     ("a b", "a b", Ask::Make("", "ann", ""), "13 Caller"),
     ("ann", "a b", Ask::Make("", "ann", ""), "13 Request"),
@@ -52,6 +55,10 @@ pub const REFUSALS: [Row; 112] = [
         Ask::Permit("t", Guideline::D5_1, "why"),
         "2 NameTaken",
     ),
+];
+
+/// What is refused of submitting and raising.
+pub const SUBMITTING_AND_RAISING: [Row; 24] = [
     ("ann", "3", Ask::Submit("", 1), "13 Project"),
     ("ann", "1", Ask::Submit("", 1), "13 Project"),
     ("ann", "1", Ask::Submit("p", 1), "11 MakeProject"),
@@ -166,6 +173,10 @@ pub const REFUSALS: [Row; 112] = [
         Ask::Raise("p", Guideline::D5_3, "x", ""),
         "raised 3",
     ),
+];
+
+/// What is refused of approving.
+pub const APPROVING: [Row; 15] = [
     ("ben", "2", Ask::Approve("", 1), "13 Project"),
     ("ben", "1", Ask::Approve("", 1), "13 Project"),
     ("ben", "1", Ask::Approve("p", 1), "11 Raise"),
@@ -186,6 +197,10 @@ pub const REFUSALS: [Row; 112] = [
     ),
     ("ann", "6", Ask::Approve("p", 1), "5 ann"),
     ("ben", "3", Ask::Approve("p", 1), "6 D5.1"),
+];
+
+/// What is refused of rejecting and withdrawing.
+pub const REJECTING_AND_WITHDRAWING: [Row; 20] = [
     ("ben", "3", Ask::Reject("", 1), "13 Project"),
     ("ben", "1", Ask::Reject("", 1), "13 Project"),
     ("ben", "1", Ask::Reject("p", 1), "11 Raise"),
@@ -206,6 +221,10 @@ pub const REFUSALS: [Row; 112] = [
     ("ben", "3", Ask::Withdraw("p", 2), "4 Rejected"),
     ("ann", "6", Ask::Approve("p", 3), "done"),
     ("ben", "3", Ask::Reject("p", 3), "4 Approved"),
+];
+
+/// What is refused of plans.
+pub const PLANS: [Row; 17] = [
     (
         "ann",
         "7",
@@ -336,6 +355,10 @@ pub const REFUSALS: [Row; 112] = [
         Ask::Raise("p", Guideline::D5_2, "x", ""),
         "6 D5.2",
     ),
+];
+
+/// What is refused of reading, and what follows once there is a revision.
+pub const READING: [Row; 19] = [
     ("ann", "", Ask::Summary(""), "13 Project"),
     ("ann", "", Ask::Summary("none"), "1 NoProject"),
     ("cid", "", Ask::Summary("p"), "12 NotMember"),

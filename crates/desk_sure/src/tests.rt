@@ -2,7 +2,10 @@ use crate::answers::answer;
 use crate::asks::{Ask, caller, choice, command, creations, races};
 use crate::days::{COVERED, DAY, ELEMENTS, Row};
 use crate::first_rows::{first_deviations, keeper_with, kept_rows};
-use crate::refusals::{LIMITED, REFUSALS};
+use crate::refusals::{
+    APPROVING, LIMITED, PLANS, PROJECTS_AND_PERMITS, READING, REJECTING_AND_WITHDRAWING,
+    SUBMITTING_AND_RAISING,
+};
 use desk_core::{act, seen};
 use desk_memory::{MemoryKeeper, SureKeeper};
 use desk_tables::Keeper;
@@ -104,11 +107,47 @@ fn deviations_cover_the_findings_of_their_own_project(rt: HostRuntime) -> Result
     Ok(())
 }
 
+/// Which requests of the desk stand in one table.
+#[derive(Clone, Copy)]
+enum Part {
+    Making,
+    Raising,
+    Approving,
+    Rejecting,
+    Planning,
+    Reading,
+}
+
+fn expect_part<K: Keeper>(
+    rt: &impl Abort,
+    alloc: Global,
+    keeper: &mut K,
+    part: Part,
+) -> Result<(), AllocError> {
+    match part {
+        Part::Making => expect_all(rt, alloc, keeper, &PROJECTS_AND_PERMITS),
+        Part::Raising => expect_all(rt, alloc, keeper, &SUBMITTING_AND_RAISING),
+        Part::Approving => expect_all(rt, alloc, keeper, &APPROVING),
+        Part::Rejecting => expect_all(rt, alloc, keeper, &REJECTING_AND_WITHDRAWING),
+        Part::Planning => expect_all(rt, alloc, keeper, &PLANS),
+        Part::Reading => expect_all(rt, alloc, keeper, &READING),
+    }
+}
+
 #[test]
 fn the_first_refusal_of_a_command_answers(rt: HostRuntime) -> Result<(), Fail> {
     let alloc = rt.alloc();
     let mut keeper = MemoryKeeper::new(alloc, Vec::new(alloc));
-    expect_all(&rt, alloc, &mut keeper, &REFUSALS)?;
+    for part in [
+        Part::Making,
+        Part::Raising,
+        Part::Approving,
+        Part::Rejecting,
+        Part::Planning,
+        Part::Reading,
+    ] {
+        expect_part(&rt, alloc, &mut keeper, part)?;
+    }
     Ok(())
 }
 
