@@ -12,7 +12,6 @@ use misra_base::{Category, FirstDeviation, Guideline, Name, NameList, Permit, Pl
 use std::alloc::{AllocError, Global};
 
 /// Rows that are kept for ann, by requests of four bytes.
-#[tactic(auto, using(crate::proofs::Numbered::kept_more))]
 pub fn kept_rows(alloc: Global, count: u32) -> Result<Vec<KeptRow>, AllocError>
     ensures { IfOk result (λ rows. are_keyed same_request rows.items ≡ true) }
 {
@@ -37,7 +36,6 @@ fn kept_row(alloc: Global, number: u32) -> Result<KeptRow, AllocError>
 }
 
 /// Deviations of `p` from R22.11 in `main` of the object `t[*]`, approved by ben.
-#[tactic(auto, using(crate::proofs::Numbered::deviations_more))]
 pub fn first_deviations(
     alloc: Global,
     count: u32,
@@ -69,7 +67,6 @@ fn first_deviation(alloc: Global, id: u32) -> Result<(Name, FirstDeviation), All
 }
 
 /// Projects that ann made, with names of four bytes.
-#[tactic(auto, using(crate::proofs::Numbered::projects_more))]
 fn first_projects(alloc: Global, count: u32) -> Result<Vec<ProjectRow>, AllocError>
     ensures { IfOk result (λ rows. are_keyed (λ a b. is_named a.name b) rows.items ≡ true) }
 {
@@ -93,7 +90,6 @@ fn first_project(alloc: Global, number: u32) -> Result<ProjectRow, AllocError>
 }
 
 /// Permits that ann made, with names of four bytes.
-#[tactic(auto, using(crate::proofs::Numbered::permits_more))]
 fn first_permits(alloc: Global, count: u32) -> Result<Vec<Permit>, AllocError>
     ensures { IfOk result (λ rows. are_keyed (λ a b. is_permit a.name b) rows.items ≡ true) }
 {

@@ -3,6 +3,7 @@ use crate::answers::answer;
 use crate::asks::{caller, creations, name};
 use crate::first_rows::{first_deviations, keeper_of, keeper_with, kept_rows};
 use desk_core::act;
+use desk_memory::MemoryKeeper;
 use desk_tables::{Command, Keeper};
 use misra_base::{Guideline, Name, NameList, Report};
 use std::alloc::{AllocError, Global};
@@ -70,6 +71,31 @@ fn raising(alloc: Global) -> Result<Command, AllocError> {
     })
 }
 
+/// What is asked near the limits.
+#[derive(Clone, Copy)]
+enum Kind {
+    Making,
+    Submission,
+    Raising,
+}
+
+fn command(alloc: Global, kind: Kind) -> Result<Command, AllocError> {
+    match kind {
+        Kind::Making => making(alloc, 1),
+        Kind::Submission => submission(alloc),
+        Kind::Raising => raising(alloc),
+    }
+}
+
+/// Who asks, the request's number, what, and the answer.
+const NEAR_LIMITS: [(&str, u32, Kind, &str); 5] = [
+    ("ann", 1, Kind::Submission, "revision 1000000 5"),
+    ("ann", 2, Kind::Making, "14 100000"),
+    ("ann", 2, Kind::Submission, "14 1000000"),
+    ("ann", 2, Kind::Raising, "14 10000"),
+    ("ben", 2, Kind::Making, "made p1"),
+];
+
 #[test]
 fn a_caller_makes_256_projects(rt: HostRuntime) -> Result<(), Fail> {
     let alloc = rt.alloc();
@@ -132,22 +158,28 @@ fn a_project_has_10000_deviations(rt: HostRuntime) -> Result<(), Fail> {
     Ok(())
 }
 
+/// A project at its limit of deviations, one revision and one reply kept for ann below theirs.
+fn keeper_near_limits(alloc: Global) -> Result<MemoryKeeper, AllocError> {
+    keeper_with(
+        alloc,
+        999_999,
+        first_deviations(alloc, 10_000)?,
+        kept_rows(alloc, 99_999)?,
+    )
+}
+
 /// Where a command would pass several limits the first answers.
 #[test]
 fn a_caller_has_100000_kept_replies(rt: HostRuntime) -> Result<(), Fail> {
     let alloc = rt.alloc();
-    let kept = kept_rows(alloc, 99_999)?;
-    let mut keeper = keeper_with(alloc, 999_999, first_deviations(alloc, 10_000)?, kept)?;
-    let words = answered(alloc, &mut keeper, "ann", 1, &submission(alloc)?)?;
-    assert_eq!(rt; words.as_slice(), b"revision 1000000 5".as_slice());
-    let words = answered(alloc, &mut keeper, "ann", 2, &making(alloc, 1)?)?;
-    assert_eq!(rt; words.as_slice(), b"14 100000".as_slice());
-    let words = answered(alloc, &mut keeper, "ann", 2, &submission(alloc)?)?;
-    assert_eq!(rt; words.as_slice(), b"14 1000000".as_slice());
-    let words = answered(alloc, &mut keeper, "ann", 2, &raising(alloc)?)?;
-    assert_eq!(rt; words.as_slice(), b"14 10000".as_slice());
-    let words = answered(alloc, &mut keeper, "ben", 2, &making(alloc, 1)?)?;
-    assert_eq!(rt; words.as_slice(), b"made p1".as_slice());
+    let mut keeper = keeper_near_limits(alloc)?;
+    for (asks, number, kind, expected) in NEAR_LIMITS {
+        let words = answered(alloc, &mut keeper, asks, number, &command(alloc, kind)?)?;
+        assert!(rt;
+            words.as_slice() == expected.as_bytes(),
+            "{asks} {number} {expected}"
+        );
+    }
     Ok(())
 }
 

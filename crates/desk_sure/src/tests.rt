@@ -85,7 +85,7 @@ fn expect_all<K: Keeper>(
 fn a_day_at_the_desk(rt: HostRuntime) -> Result<(), Fail> {
     let alloc = rt.alloc();
     let mut keeper = SureKeeper::new(alloc);
-    let mut accepted = 0;
+    let mut accepted = Vec::new(alloc);
     for row in &DAY {
         let before = seen_words(alloc, &mut keeper, row)?;
         let words = answered(alloc, &mut keeper, row, races(alloc)?)?;
@@ -93,9 +93,11 @@ fn a_day_at_the_desk(rt: HostRuntime) -> Result<(), Fail> {
         assert!(rt; words.as_slice() == row.3.as_bytes(), "{}", row.3);
         assert!(rt; before.is_empty() || before == words);
         assert!(rt; after.is_empty() || after == words);
-        accepted += if after.is_empty() { 0 } else { 1 };
+        if !after.is_empty() {
+            accepted.push(after)?;
+        }
     }
-    assert_eq!(rt; accepted, 7);
+    assert_eq!(rt; accepted.len(), 7);
     Ok(())
 }
 
@@ -189,14 +191,10 @@ fn faulty_day(rt: &impl Abort, alloc: Global, failing: u64) -> Result<bool, Allo
 
 #[test]
 fn each_call_of_the_keeper_may_fail(rt: HostRuntime) -> Result<(), Fail> {
-    let mut met = 0;
     for failing in 1..100 {
-        if faulty_day(&rt, rt.alloc(), failing)? {
-            met += 1;
-            assert_eq!(rt; met, failing, "each call up to the last");
-        }
+        let failed = faulty_day(&rt, rt.alloc(), failing)?;
+        // The day makes 37 calls: each command's readings in the order of its refusals, and its change.
+        assert_eq!(rt; failed, failing <= 37);
     }
-    // The calls that the day makes: each command's readings in the order of its refusals, and its change.
-    assert_eq!(rt; met, 37);
     Ok(())
 }
