@@ -23,8 +23,10 @@ echo 'pub mod Numbered' >"$program/proofs/Lib.antt"
 sed 's/desk_sure/desk_bench/' "$root/crates/desk_sure/proofs/Numbered.antt" >"$program/proofs/Numbered.antt"
 for rows in kept_rows first_deviations; do
     mkdir "$program/proofs/first_rows/$rows"
-    sed 's/desk_sure/desk_bench/' "$root/crates/desk_sure/proofs/first_rows/$rows/Invariants.antt" \
-        >"$program/proofs/first_rows/$rows/Invariants.antt"
+    for file in Answers Invariants; do
+        sed 's/desk_sure/desk_bench/' "$root/crates/desk_sure/proofs/first_rows/$rows/$file.antt" \
+            >"$program/proofs/first_rows/$rows/$file.antt"
+    done
 done
 cd "$program"
 rt run >/dev/null
