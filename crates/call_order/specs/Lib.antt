@@ -1,0 +1,4 @@
+-- The definitions that contracts cite.
+pub mod Orders
+pub mod Placings
+pub mod Stops

@@ -1,0 +1,10 @@
+//! An order of functions in which each one stands behind those that it names.
+#![tactic(auto)]
+
+pub mod calls;
+mod placing;
+#[cfg(test)]
+mod tests;
+
+pub use calls::Callees;
+pub use placing::{OrderStop, order};

@@ -1,0 +1,6 @@
+pub mod Lengths
+pub mod Ranges
+pub mod Entries
+pub mod Passing
+pub mod Functions
+pub mod Graphs

@@ -1,0 +1,4 @@
+//! The actions of a body in the turns of the counted loops round them.
+#![tactic(auto)]
+
+pub mod spots;
