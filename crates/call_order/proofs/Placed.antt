@@ -1,17 +1,16 @@
 -- One more function is placed; and where none can be, all are.
-use Rattle.std.proofs.Common.{◌≡◌, ◌⊎◌, inl, inr, refl, sym, subst, ap, ◌∙◌, ℕ, zero, suc, ◌+◌, ◌<◌, ◌≤◌, Bool, true, false, List, [], ◌∷◌, ◌++◌, length, get_or, set, sum_by, Contains, Some, None, slice_get, arith, lt_of_lt_of_le}
-use Rattle.std.proofs.lemmas.Grind.{common_steps}
-use Rattle.std.proofs.lemmas.Option.{slice_get_within, slice_get-get_or}
-use Rattle.std.proofs.Math.ListN.{get_or-eq_default}
+use Rattle.std.proofs.Common.{◌≡◌, ◌⊎◌, inl, inr, refl, sym, subst, ap, ◌∙◌, ℕ, zero, suc, ◌+◌, ◌<◌, ◌≤◌, Bool, true, false, List, [], ◌∷◌, ◌++◌, length, get_or, set, Contains, Some, None, slice_get, arith, lt_of_lt_of_le}
+use Rattle.std.proofs.lemmas.Option.{slice_get_within}
 use Rattle.std.proofs.lemmas.List.{get_or-set_same, get_or-set_other, length-set}
 use Rattle.std.proofs.lemmas.List.Elements.{Contains-push, Contains-append_left}
-use Rattle.std.proofs.lemmas.List.Sums.{sum_by-set}
 use Rattle.std.proofs.lemmas.Bool.Decides.{eqb_tells}
 use Rattle.std.specs.List.{list_all}
 use Rattle.call_order.specs.declared.calls.Callees.{Callees}
 use Rattle.call_order.specs.declared.placing.Placing.{Placing}
-use Rattle.call_order.specs.Orders.{callees_at, Names, IsLayered, IsOrder}
-use Rattle.call_order.specs.Placings.{IsPlaced, IsPlacing, IsStuck, IsStuckBelow, left_at, unplaced}
+use Rattle.call_order.specs.Orders.{callees_at, Names, IsNeeded, itself, named, IsLayered, IsOrder}
+use Rattle.call_order.specs.Marks.{IsMarked, AreNeeded}
+use Rattle.call_order.specs.Placings.{IsPlaced, IsPlacing, IsStuck, IsStuckBelow}
+use Rattle.call_order.proofs.Marking.{place_of, contained, marked_within}
 
 -- ---- lists
 
@@ -32,10 +31,6 @@ got_push (z ∷ xs) y (suc k) x e = elim (got_push xs y k x e) [
   | inr new ↦ inr (ap suc new.0, new.1)
 ]
 
--- what a list contains has a place in it
-place_of : {A : Type 0} (xs : List A) (x : A) → Contains xs x → (k : ℕ) × (slice_get xs k ≡ Some x)
-place_of xs x c = (c.0, slice_get-get_or xs c.0 x c.1 ∙ ap Some c.2)
-
 pub passes : {A : Type 0} (p : A → Bool) (xs : List A) (k : ℕ) (x : A) → list_all p xs ≡ true → slice_get xs k ≡ Some x → p x ≡ true
 passes p [] k x a e = cc
 passes p (y ∷ xs) zero x a e = first (p y) refl a
@@ -49,28 +44,11 @@ passes p (y ∷ xs) (suc k) x a e = passes p xs k x (rest (p y) refl a) e
     rest true is all = cc
     rest false is all = cc
 
-pub fails : {A : Type 0} (p : A → Bool) (xs : List A) (d : A) → list_all p xs ≡ false → (k : ℕ) × (k < length xs) × (p (get_or xs k d) ≡ false)
-fails p [] d e = cc
-fails p (y ∷ xs) d e = go (p y) refl
-  where
-    go : (b : Bool) → p y ≡ b → (k : ℕ) × (k < length (y ∷ xs)) × (p (get_or (y ∷ xs) k d) ≡ false)
-    go true is = let rest : list_all p xs ≡ false = cc in let f = fails p xs d rest in (suc f.0, omega (arith, f.1), f.2)
-    go false is = (0, omega arith, is)
-
-marked_within : (marks : List Bool) (i : ℕ) → get_or marks i false ≡ true → i < length marks
-marked_within marks i m = elim (split i (length marks)) [
-  | inl l ↦ l
-  | inr g ↦ (let e : get_or marks i false ≡ false = get_or-eq_default marks false g in cc)
-]
-  where
-    split : (a b : ℕ) → (a < b) ⊎ (b ≤ a)
-    split a b = grind arith
-
 -- ---- one more
 
-module _ (calls : List Callees) (old new : Placing) (function : ℕ) (within : function < length calls) (fresh : get_or old.placed.items function false ≡ false)
+module _ (calls : List Callees) (needed : List Bool) (old new : Placing) (function : ℕ) (within : function < length calls) (fresh : get_or old.placed.items function false ≡ false)
     (all : list_all (λ f. get_or old.placed.items f false) (callees_at calls function) ≡ true)
-    (placed : new.placed.items ≡ set old.placed.items function true) (order : new.order.items ≡ old.order.items ++ function ∷ []) (is : IsPlacing calls old) where
+    (placed : new.placed.items ≡ set old.placed.items function true) (order : new.order.items ≡ old.order.items ++ function ∷ []) (wanted : IsMarked needed function) (is : IsPlacing calls needed old) where
   in_marks : function < length old.placed.items
   in_marks = subst (λ n. function < n) (sym is.long) within
 
@@ -97,18 +75,19 @@ module _ (calls : List Callees) (old new : Placing) (function : ℕ) (within : f
   no_place k f e same = let p : IsPlaced old f = is.only k f e in let q = subst (λ n. get_or old.placed.items n false ≡ false) same fresh in cc
 
   -- what it names has a place
-  named : (callee : ℕ) → Names calls function callee → (before : ℕ) × (before < length old.order.items) × (slice_get old.order.items before ≡ Some callee)
-  named callee names =
+  found : (callee : ℕ) → Names calls function callee → (before : ℕ) × (before < length old.order.items) × (slice_get old.order.items before ≡ Some callee)
+  found callee names =
       let at = place_of (callees_at calls function) callee names in
-      let found = place_of old.order.items callee (is.each callee (passes (λ f. get_or old.placed.items f false) (callees_at calls function) at.0 callee all at.1)) in
-      (found.0, slice_get_within old.order.items found.0 callee found.1, found.1)
+      let has = place_of old.order.items callee (is.each callee (passes (λ f. get_or old.placed.items f false) (callees_at calls function) at.0 callee all at.1)) in
+      (has.0, slice_get_within old.order.items has.0 callee has.1, has.1)
 
   more : (k f : ℕ) → slice_get old.order.items k ≡ Some f → slice_get new.order.items k ≡ Some f
   more k f e = ap (λ xs. slice_get xs k) order ∙ got_more old.order.items (function ∷ []) k f e
 
-  pub placed_more : IsPlacing calls new
+  pub placed_more : IsPlacing calls needed new
   placed_more = record {
     long = ap length placed ∙ length-set old.placed.items function true ∙ is.long;
+    wanted = λ f p. elim (only f p) [ inl o ↦ is.wanted f o | inr e ↦ subst (IsMarked needed) e wanted ];
     each = λ f p. subst (λ xs. Contains xs f) (sym order) (elim (only f p) [
       | inl o ↦ Contains-append_left old.order.items (function ∷ []) f (is.each f o)
       | inr e ↦ subst (λ n. Contains (old.order.items ++ function ∷ []) n) e (Contains-push old.order.items function)
@@ -123,47 +102,49 @@ module _ (calls : List Callees) (old new : Placing) (function : ℕ) (within : f
     ];
     inward = λ k f callee e names. elim (got k f e) [
       | inl o ↦ (let i = is.inward k f callee o names in (i.0, i.1, more i.0 callee i.2))
-      | inr n ↦ (let i = named callee (subst (λ g. Names calls g callee) (sym n.1) names) in (i.0, subst (λ m. i.0 < m) (sym n.0) i.1, more i.0 callee i.2))
+      | inr n ↦ (let i = found callee (subst (λ g. Names calls g callee) (sym n.1) names) in (i.0, subst (λ m. i.0 < m) (sym n.0) i.1, more i.0 callee i.2))
     ];
   }
 
-  pub fewer : unplaced new < unplaced old
-  fewer = let e = sum_by-set left_at old.placed.items function true false in_marks in
-      let f : sum_by left_at new.placed.items ≡ sum_by left_at (set old.placed.items function true) = ap (sum_by left_at) placed in
-      let g : left_at (get_or old.placed.items function false) ≡ 1 = ap left_at fresh in
-      omega arith
-
 -- ---- the end
 
--- what names only what is placed is placed, and so all is
-module _ (calls : List Callees) (placing : Placing) (layered : IsLayered calls) (stuck : IsStuckBelow calls placing (length calls)) where
-  up_to : (h function : ℕ) → function < length calls → layered.height function < h → IsPlaced placing function
-  up_to zero function l b = absurd (omega (arith, b))
-  up_to (suc h) function l b = elim (stuck function l) [
+-- what names only what is placed is placed, and so all that is needed is
+module _ (calls : List Callees) (main : ℕ) (needed : List Bool) (placing : Placing) (are : AreNeeded calls main needed) (layered : IsLayered calls main)
+    (stuck : IsStuckBelow calls needed placing (length calls)) where
+  not_both : (f : ℕ) → get_or placing.placed.items f false ≡ true → get_or placing.placed.items f false ≡ false → ⊥
+  not_both f p q = cc
+
+  lower : {a b c : ℕ} → a < b → b < suc c → a < c
+  lower l m = omega arith
+
+  none : {a : ℕ} → a < 0 → ⊥
+  none l = omega arith
+
+  up_to : (h function : ℕ) → IsNeeded calls main function → function < length calls → layered.height function < h → IsPlaced placing function
+  up_to zero function n l b = absurd (none b)
+  up_to (suc h) function n l b = elim (stuck function l (are.all function n l)) [
     | inl p ↦ p
-    | inr s ↦ (let p : IsPlaced placing s.0 = up_to h s.0 (layered.known function s.0 s.1.0) (lower (layered.above function s.0 s.1.0) b) in
-        let q = s.1.1 in cc)
+    | inr s ↦ absurd (not_both s.0 (up_to h s.0 (named function s.0 n s.1) (layered.known function s.0 n s.1) (lower (layered.above function s.0 n s.1) b)) s.2)
   ]
-    where
-      lower : {a b c : ℕ} → a < b → b < suc c → a < c
-      lower l m = omega arith
 
-  pub all_placed : (function : ℕ) → function < length calls → IsPlaced placing function
-  all_placed function l = up_to (suc (layered.height function)) function l (next (layered.height function))
-    where
-      next : (n : ℕ) → n < suc n
-      next n = omega arith
+  next : (n : ℕ) → n < suc n
+  next n = omega arith
 
-pub in_order : (calls : List Callees) (placing : Placing) → IsPlacing calls placing → list_all (λ b. b) placing.placed.items ≡ true → IsOrder calls placing.order.items
-in_order calls placing is all = record {
-  each = λ f l. is.each f (passes (λ b. b) placing.placed.items f (get_or placing.placed.items f false) all (slice_get-get_or placing.placed.items f false (subst (λ n. f < n) (sym is.long) l)));
-  one = is.one;
-  only = λ k f e. subst (λ n. f < n) is.long (marked_within placing.placed.items f (is.only k f e));
-  inward = is.inward;
-}
+  pub main_placed : main < length calls → get_or placing.placed.items main false ≡ false → ⊥
+  main_placed l e = not_both main (up_to (suc (layered.height main)) main itself l (next (layered.height main))) e
 
-pub not_layered : (calls : List Callees) (placing : Placing) → IsPlacing calls placing → IsStuckBelow calls placing (length calls) → list_all (λ b. b) placing.placed.items ≡ false → IsLayered calls → ⊥
-not_layered calls placing is stuck some layered =
-    let f = fails (λ b. b) placing.placed.items false some in
-    let p : IsPlaced placing f.0 = all_placed calls placing layered stuck f.0 (subst (λ n. f.0 < n) is.long f.1) in
-    let q = f.2 in cc
+module _ (calls : List Callees) (main : ℕ) (needed : List Bool) (placing : Placing) (are : AreNeeded calls main needed) (is : IsPlacing calls needed placing) (placed : IsPlaced placing main) where
+  each : (function : ℕ) → IsNeeded calls main function → Contains placing.order.items function
+  each main itself = is.each main placed
+  each callee (named caller callee n names) =
+      let at = place_of placing.order.items caller (each caller n) in
+      let before = is.inward at.0 caller callee at.1 names in
+      contained placing.order.items before.0 callee before.2
+
+  pub in_order : IsOrder calls main placing.order.items
+  in_order = record {
+    each = each;
+    one = is.one;
+    only = λ k f e. (subst (λ n. f < n) is.long (marked_within placing.placed.items f (is.only k f e)), are.only f (is.wanted f (is.only k f e)));
+    inward = is.inward;
+  }

@@ -1,4 +1,5 @@
 -- The definitions that contracts cite.
+pub mod Marks
 pub mod Orders
 pub mod Placings
 pub mod Stops

@@ -1,11 +1,13 @@
-//! Functions are placed in rounds: in each one those whose callees are all placed.
+//! Needed functions are placed in rounds: in each one those whose callees are all placed.
 ghost use Rattle.std.specs.Prelude.{◌≡◌, ◌<◌, ◌^◌, ℕ, false, OnOk, IfOk, MatchResult, length, slice_index_or};
 ghost use Rattle.std.specs.List.{list_all};
+ghost use Rattle.call_order.specs.Marks.{Grows};
 ghost use Rattle.call_order.specs.Orders.{IsOrder};
-ghost use Rattle.call_order.specs.Placings.{IsPlacing, Grows, IsStuck, IsStuckBelow};
+ghost use Rattle.call_order.specs.Placings.{IsPlacing, IsStuck, IsStuckBelow};
 ghost use Rattle.call_order.specs.Stops.{StopsBy};
 
 use crate::calls::Callees;
+use crate::needed::{is_marked, needed};
 use std::alloc::{AllocError, Global};
 
 /// The functions that are placed.
@@ -33,11 +35,7 @@ impl Placing {
     fn is_placed(&self, function: u32) -> bool
         ensures { result ≡ slice_index_or self.now.placed.items function false }
     {
-        if (function as usize) < self.placed.len() {
-            self.placed[function as usize]
-        } else {
-            false
-        }
+        is_marked(self.placed.as_slice(), function)
     }
 
     /// Whether all of these are placed.
@@ -47,22 +45,20 @@ impl Placing {
         functions.iter().all(|function| self.is_placed(*function))
     }
 
-    /// Whether all functions are placed.
-    fn is_complete(&self) -> bool
-        ensures { result ≡ list_all (λ b. b) self.now.placed.items }
-    {
-        self.placed.iter().all(|placed| *placed)
-    }
-
-    /// Places a function, if it is not placed and all that it names are. Answers whether it did.
-    fn place(&mut self, calls: &[Callees], function: u32) -> Result<bool, AllocError>
-        requires placing { IsPlacing calls.now self.old }
+    /// Places a needed function, if it is not placed and all that it names are. Answers whether it did.
+    fn place(
+        &mut self,
+        calls: &[Callees],
+        needed: &[bool],
+        function: u32,
+    ) -> Result<bool, AllocError>
+        requires placing { IsPlacing calls.now needed.now self.old }
         requires function { function < length calls.now }
-        ensures placing { OnOk result (IsPlacing calls.now self.new) }
-        ensures grows { IfOk result (λ grew. Grows self.old self.new grew) }
-        ensures stuck { IfOk result (λ grew. grew ≡ false → IsStuck calls.now self.new function) }
+        ensures placing { OnOk result (IsPlacing calls.now needed.now self.new) }
+        ensures grows { IfOk result (λ grew. Grows self.old.placed.items self.new.placed.items grew) }
+        ensures stuck { IfOk result (λ grew. grew ≡ false → IsStuck calls.now needed.now self.new function) }
     {
-        if self.is_placed(function) {
+        if self.is_placed(function) || !is_marked(needed, function) {
             return Ok(false);
         }
         if !self.are_placed(calls[function as usize].functions.as_slice()) {
@@ -74,16 +70,16 @@ impl Placing {
     }
 
     /// Goes over all functions once. Answers whether one was placed.
-    fn round(&mut self, calls: &[Callees]) -> Result<bool, AllocError>
-        requires placing { IsPlacing calls.now self.old }
+    fn round(&mut self, calls: &[Callees], needed: &[bool]) -> Result<bool, AllocError>
+        requires placing { IsPlacing calls.now needed.now self.old }
         requires few { length calls.now < 2 ^ 32 }
-        ensures placing { OnOk result (IsPlacing calls.now self.new) }
-        ensures grows { IfOk result (λ grew. Grows self.old self.new grew) }
-        ensures stuck { IfOk result (λ grew. grew ≡ false → IsStuckBelow calls.now self.new (length calls.now)) }
+        ensures placing { OnOk result (IsPlacing calls.now needed.now self.new) }
+        ensures grows { IfOk result (λ grew. Grows self.old.placed.items self.new.placed.items grew) }
+        ensures stuck { IfOk result (λ grew. grew ≡ false → IsStuckBelow calls.now needed.now self.new (length calls.now)) }
     {
         let mut grew = false;
         for function in 0..calls.len() as u32 {
-            if self.place(calls, function)? {
+            if self.place(calls, needed, function)? {
                 grew = true;
             }
         }
@@ -94,35 +90,41 @@ impl Placing {
 /// Why functions have no order.
 #[derive(Clone, Copy, Debug, PartialEq, Eq)]
 pub enum OrderStop {
-    /// A function names itself, at once or through others, or one that is not in the table.
+    /// A needed function names itself, at once or through others, or one that is not in the table.
     Cycle,
     Memory,
 }
 
-/// Places functions until no more can be placed.
-fn place_all(alloc: Global, calls: &[Callees]) -> Result<Placing, AllocError>
+/// Places needed functions until no more can be placed.
+fn place_all(alloc: Global, calls: &[Callees], needed: &[bool]) -> Result<Placing, AllocError>
     requires few { length calls.now < 2 ^ 32 }
-    ensures placing { IfOk result (λ placing. IsPlacing calls.now placing) }
-    ensures stuck { IfOk result (λ placing. IsStuckBelow calls.now placing (length calls.now)) }
+    ensures placing { IfOk result (λ placing. IsPlacing calls.now needed.now placing) }
+    ensures stuck { IfOk result (λ placing. IsStuckBelow calls.now needed.now placing (length calls.now)) }
 {
     let mut placing = Placing::new(alloc, calls.len())?;
     let mut grew = true;
     while grew {
-        grew = placing.round(calls)?;
+        grew = placing.round(calls, needed)?;
     }
     Ok(placing)
 }
 
-/// An order of all functions of a table, in which each stands behind those that it names.
-pub fn order(alloc: Global, calls: &[Callees]) -> Result<Vec<u32>, OrderStop>
+/// An order of the functions of a table that are needed: the main one and those that needed ones name. Each stands
+/// behind those that it names.
+pub fn order(alloc: Global, calls: &[Callees], main: u32) -> Result<Vec<u32>, OrderStop>
     requires few { length calls.now < 2 ^ 32 }
-    ensures { MatchResult result (λ order. IsOrder calls.now order.items) (StopsBy calls.now) }
+    requires main { main < length calls.now }
+    ensures { MatchResult result (λ order. IsOrder calls.now main order.items) (StopsBy calls.now main) }
 {
-    let placing = match place_all(alloc, calls) {
+    let needed = match needed(alloc, calls, main) {
+        Ok(needed) => needed,
+        Err(_) => return Err(OrderStop::Memory),
+    };
+    let placing = match place_all(alloc, calls, needed.as_slice()) {
         Ok(placing) => placing,
         Err(_) => return Err(OrderStop::Memory),
     };
-    if placing.is_complete() {
+    if placing.is_placed(main) {
         Ok(placing.order)
     } else {
         Err(OrderStop::Cycle)

@@ -12,16 +12,16 @@ fn table(alloc: Global, rows: &[&[u32]]) -> Result<Vec<Callees>, AllocError> {
     Ok(calls)
 }
 
-/// Whether a table has this order, or none for this cause.
+/// Whether the functions of a table that the first one needs have this order, or none for this cause.
 fn has(alloc: Global, rows: &[&[u32]], wanted: Result<&[u32], OrderStop>) -> bool {
     let calls = match table(alloc, rows) {
         Ok(calls) => calls,
         Err(_) => return false,
     };
-    if calls.len() > 100 {
+    if calls.is_empty() || calls.len() > 100 {
         return false;
     }
-    match (order(alloc, calls.as_slice()), wanted) {
+    match (order(alloc, calls.as_slice(), 0), wanted) {
         (Ok(found), Ok(wanted)) => found.as_slice() == wanted,
         (Err(found), Err(wanted)) => found == wanted,
         _ => false,
@@ -33,10 +33,18 @@ fn functions_stand_behind_those_that_they_name(rt: HostRuntime) {
     let alloc = rt.alloc();
     // each names the next one, so there is one order alone
     assert!(rt; has(alloc, &[&[1], &[2], &[3], &[]], Ok(&[3, 2, 1, 0])));
-    assert!(rt; has(alloc, &[&[], &[0], &[1]], Ok(&[0, 1, 2])));
     // twice the same, and one through another
     assert!(rt; has(alloc, &[&[1, 1, 2], &[], &[1]], Ok(&[1, 2, 0])));
-    assert!(rt; has(alloc, &[], Ok(&[])));
+    // one that names nothing
+    assert!(rt; has(alloc, &[&[]], Ok(&[0])));
+}
+
+#[test]
+fn functions_that_are_not_needed_are_left_out(rt: HostRuntime) {
+    let alloc = rt.alloc();
+    // the second one needs the first, and nothing needs it, so it may name itself too
+    assert!(rt; has(alloc, &[&[2], &[0, 1], &[]], Ok(&[2, 0])));
+    assert!(rt; has(alloc, &[&[], &[2], &[1]], Ok(&[0])));
 }
 
 #[test]

@@ -113,7 +113,7 @@ module _ (program : Program) (flow : Flow) (made : IsMade program flow) (main : 
         let before = spotted numbers place leads in
         let o = own place number has in
         let spot = spot_at flow number in
-        let inside : In spot (spots_of [] (body_at program before.function)) = subst (λ f. In spot (spots_of [] (body_at program f))) (same_function place o.0 before.function o.1.0 before.named) o.1.1 in
+        let inside : In spot (spots_of [] (body_at program before.function)) = subst (λ f. In spot (spots_of [] (body_at program f))) (same_function place o.0 before.function o.1 before.named) o.2 in
         let contains = to_contains spot (spots_of [] (body_at program before.function)) inside in
         let threads : Bool → List Spot = λ b. map (spot_at flow) (cond b (number ∷ numbers) (origin_of flow.graph numbers)) in
         elim (deed (act_at program spot.action) (transfer_at flow.graph number) callee (made.acts number (exists place number has)) calls_it) [

@@ -114,9 +114,9 @@ module _ (edges : List Edges) (old new : Search) (node : ℕ) (within : node < l
     | inl c ↦ elim (case b) [ inl same ↦ absurd (let q = ap (place_at old) same.0 ∙ fresh in cc) | inr other ↦ inl (other.1 ∙ c) ]
     | inr o ↦ inr (
       o.0,
-      kept_at o.0 b o.1.0,
+      kept_at o.0 b o.1,
       λ g c low high. elim (Contains-push_cases old.groups.items (length old.active.items) g (subst (λ xs. Contains xs g) groups c)) [
-        | inl was ↦ o.1.1 g was low high
+        | inl was ↦ o.2 g was low high
         | inr e ↦ late e l high
       ],
     )

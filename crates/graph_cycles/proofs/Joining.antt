@@ -63,7 +63,7 @@ module _ (edges : List Edges) (old new : Search) (end node to next : ℕ)
   still_followed : (i b : ℕ) → IsFollowed old i b → IsFollowed new i b
   still_followed i b f = elim f [
     | inl c ↦ inl (still b ∙ c)
-    | inr o ↦ inr (o.0, still_at o.0 b o.1.0, still_joined o.0 i o.1.1)
+    | inr o ↦ inr (o.0, still_at o.0 b o.1, still_joined o.0 i o.2)
   ]
 
   pub is_followed : IsFollowed new end next

@@ -40,7 +40,7 @@ module _ (edges : List Edges) (old new : Search) (end : ℕ) (path : old.path.it
   still_followed : (i b : ℕ) → IsFollowed old i b → IsFollowed new i b
   still_followed i b f = elim f [
     | inl c ↦ inl (still b ∙ c)
-    | inr o ↦ inr (o.0, still_at o.0 b o.1.0, λ begin c low high. o.1.1 begin (was_group begin c) low high)
+    | inr o ↦ inr (o.0, still_at o.0 b o.1, λ begin c low high. o.2 begin (was_group begin c) low high)
   ]
 
   pub went_back : IsSearching edges new
@@ -161,7 +161,7 @@ module _ (edges : List Edges) (old new : Search) (end : ℕ) (path : old.path.it
   leads_out i a b e l edge = let k = place_of (nexts edges a) b edge in
       elim (is.linked.followed i a k.0 b e (subst (λ n. n ≤ k.0) (sym (all_done i a e l)) (least k.0)) k.1) [
         | inl c ↦ inl c
-        | inr o ↦ elim (split o.0 end) [ inl m ↦ absurd (o.1.1 end group_there m l) | inr m ↦ inr (o.0, o.1.0, m) ]
+        | inr o ↦ elim (split o.0 end) [ inl m ↦ absurd (o.2 end group_there m l) | inr m ↦ inr (o.0, o.1, m) ]
       ]
     where
       least : (n : ℕ) → 0 ≤ n
@@ -169,7 +169,7 @@ module _ (edges : List Edges) (old new : Search) (end : ℕ) (path : old.path.it
 
   closed : (a b : ℕ) → place_at new a ≡ Closed → Edge edges a b → place_at new b ≡ Closed
   closed a b e edge = elim (case a) [
-    | inl c ↦ elim (leads_out c.0 a b c.1.0 c.1.1 edge) [ inl was ↦ still_closed b was | inr o ↦ closes o.0 b o.1.0 o.1.1 ]
+    | inl c ↦ elim (leads_out c.0 a b c.1 c.2 edge) [ inl was ↦ still_closed b was | inr o ↦ closes o.0 b o.1 o.2 ]
     | inr s ↦ still_closed b (is.settled.closed a b (sym (others a s).0 ∙ e) edge)
   ]
 
@@ -226,9 +226,9 @@ module _ (edges : List Edges) (old new : Search) (end : ℕ) (path : old.path.it
   alone : (i a b : ℕ) → At old i a → end ≤ i → length old.active.items ≤ end + 1 → Leads edges a b → Edge edges a a ⊎ (place_at old b ≡ Closed)
   alone i a b e l few (one a b edge) = elim (leads_out i a b e l edge) [
     | inl c ↦ inr c
-    | inr o ↦ (let w = slice_get_within old.active.items i a e in let v = slice_get_within old.active.items o.0 b o.1.0 in
-        let at : o.0 ≡ i = same few w v l o.1.1 in
-        let node : b ≡ a = same_node (subst (λ n. At old n b) at o.1.0) e in
+    | inr o ↦ (let w = slice_get_within old.active.items i a e in let v = slice_get_within old.active.items o.0 b o.1 in
+        let at : o.0 ≡ i = same few w v l o.2 in
+        let node : b ≡ a = same_node (subst (λ n. At old n b) at o.1) e in
         inl (subst (Edge edges a) node edge))
   ]
     where
@@ -245,10 +245,10 @@ module _ (edges : List Edges) (old new : Search) (end : ℕ) (path : old.path.it
   exact : (a : ℕ) → a < length edges → place_at new a ≡ Closed → (get_or new.cyclic.items a false ≡ true) ↔ IsCyclic edges a
   exact a l e = elim (case a) [
     | inl c ↦ (
-      λ m. elim ((marks c.0 a c.1.0 c.1.1).0 m) [ inl some ↦ many c.0 a c.1.0 c.1.1 some | inr self ↦ one a a self ],
-      λ m. (marks c.0 a c.1.0 c.1.1).1 (elim (split (end + 1) (length old.active.items)) [
+      λ m. elim ((marks c.0 a c.1 c.2).0 m) [ inl some ↦ many c.0 a c.1 c.2 some | inr self ↦ one a a self ],
+      λ m. (marks c.0 a c.1 c.2).1 (elim (split (end + 1) (length old.active.items)) [
         | inl some ↦ inl some
-        | inr few ↦ elim (alone c.0 a a c.1.0 c.1.1 few m) [ inl self ↦ inr self | inr was ↦ absurd (stays_closed a was c.0 c.1.0 c.1.1) ]
+        | inr few ↦ elim (alone c.0 a a c.1 c.2 few m) [ inl self ↦ inr self | inr was ↦ absurd (stays_closed a was c.0 c.1 c.2) ]
       ]),
     )
     | inr s ↦ subst (λ b. (b ≡ true) ↔ IsCyclic edges a) (sym (others a s).1) (is.settled.exact a l (sym (others a s).0 ∙ e))
@@ -260,15 +260,15 @@ module _ (edges : List Edges) (old new : Search) (end : ℕ) (path : old.path.it
   still_followed i b f = elim f [
     | inl c ↦ inl (still_closed b c)
     | inr o ↦ elim (split o.0 end) [
-      | inl before ↦ inr (o.0, keep o.0 b o.1.0 before, λ begin c low high. o.1.1 begin (was_group begin c) low high)
-      | inr after ↦ inl (closes o.0 b o.1.0 after)
+      | inl before ↦ inr (o.0, keep o.0 b o.1 before, λ begin c low high. o.2 begin (was_group begin c) low high)
+      | inr after ↦ inl (closes o.0 b o.1 after)
     ]
   ]
 
   linked : IsLinked edges new
   linked = record {
     fresh = λ a e. elim (case a) [
-      | inl c ↦ absurd (let p = closes c.0 a c.1.0 c.1.1 in cc)
+      | inl c ↦ absurd (let p = closes c.0 a c.1 c.2 in cc)
       | inr s ↦ still_left a ∙ is.linked.fresh a (sym (others a s).0 ∙ e)
     ];
     onward = λ i j a b le e f. is.linked.onward i j a b le (cut i a e).0 (cut j b f).0;
@@ -320,7 +320,7 @@ module _ (edges : List Edges) (old new : Search) (end : ℕ) (path : old.path.it
     marks = marks_long ∙ is.over.marks;
     here = λ i a e. let c = cut i a e in (others a (stays_before i a c.0 c.1)).0 ∙ is.over.here i a c.0;
     there = λ a i e. elim (case a) [
-      | inl c ↦ absurd (let p = closes c.0 a c.1.0 c.1.1 in cc)
+      | inl c ↦ absurd (let p = closes c.0 a c.1 c.2 in cc)
       | inr s ↦ (let at = is.over.there a i (sym (others a s).0 ∙ e) in elim (split i end) [ inl l ↦ keep i a at l | inr l ↦ absurd (s i at l) ])
     ];
   }

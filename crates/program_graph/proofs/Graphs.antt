@@ -167,8 +167,8 @@ module _ (program : Program) (flow : Flow) (made : IsMade program flow) where
         let i = spot_own n action l h in
         let node = below action (first_of flow.graph n) (length_of flow.graph n) (length flow.graph.nodes.items) h.1 (within n) in
         let named = names flow.order.items (act_at program (spot_at flow action).action) (transfer_at flow.graph action) callee (made.acts action node) e in
-        let before = ordered.inward n l.f named.0 l.named (calls_in program l.f named.0 (spot_at flow action) i named.1.0) in
-        subst (λ k. k < n) (ordered.one before.0 callee named.0 before.1.1 named.1.1) before.1.0
+        let before = ordered.inward n l.f named.0 l.named (calls_in program l.f named.0 (spot_at flow action) i named.1) in
+        subst (λ k. k < n) (ordered.one before.0 callee named.0 before.2 named.2) before.1
       where
         below : (action first length nodes : ℕ) → action < first + length → first + length ≤ nodes → action < nodes
         below action first length nodes l m = omega arith
