@@ -22,8 +22,9 @@ use Rattle.control_flow.specs.Labels.{spot_of, spot_at, Does}
 use Rattle.control_flow.specs.Layout.{size_of, first, nexts_of}
 use Rattle.control_flow.specs.Made.{IsMade, text_spots, nexts_from, behind}
 use Rattle.control_flow.proofs.Tables.{At, by_list}
-use Rattle.program_graph.specs.Calls.{callee_in, callees_of, Calls, IsOrder}
+use Rattle.program_graph.specs.Calls.{callee_in, names_of, callees_of, Calls, IsSmall, IsOrder}
 use Rattle.program_graph.specs.Passes.{total}
+use Rattle.program_graph.proofs.Known.{in_named}
 use Rattle.program_graph.proofs.Lengths.{spots_long, nexts_long}
 use Rattle.program_graph.proofs.Ranges.{Within, first_in as first_within, nexts_in as nexts_within}
 use Rattle.program_graph.proofs.Functions.{in_range, Standing, standing, Laid, laid, opens_in, follows_in, within_in, rows_long}
@@ -56,20 +57,9 @@ names order _ t callee d e = absurd (none (ap callee_of d) e)
     none : {b : ℕ} {o : Option ℕ} → o ≡ None → o ≡ Some b → ⊥
     none p q = cc
 
-in_flat : {A B : Type 0} (f : A → List B) (x : A) (y : B) (xs : List A) → In x xs → In y (f x) → In y (flat_map f xs)
-in_flat f x y [] i j = absurd i
-in_flat f x y (z ∷ xs) (inl e) j = in_left y (f z) (flat_map f xs) (subst (λ w. In y (f w)) (sym e) j)
-in_flat f x y (z ∷ xs) (inr i) j = in_right y (f z) (flat_map f xs) (in_flat f x y xs i j)
-
-in_option : (o : Option ℕ) (n : ℕ) → o ≡ Some n → In n (option_to_list o)
-in_option (Some m) n e = inl (cc)
-in_option None n e = absurd (cc)
-
 -- a spot of a body whose action names a function
 calls_in : (program : Program) (f function : ℕ) (spot : Spot) → In spot (spots_of [] (body_at program f)) → callee_in (act_at program spot.action) ≡ Some function → Calls program f function
-unfolding callees_of
-calls_in program f function spot i e = to_contains function _
-    (in_flat (λ (s : Spot). option_to_list (callee_in (act_at program s.action))) spot function (spots_of [] (body_at program f)) i (in_option (callee_in (act_at program spot.action)) function e))
+calls_in program f function spot i e = to_contains function (callees_of program f) (in_named program (spots_of [] (body_at program f)) function (record { spot = spot; is_in = i; names = e }))
 
 map_long : {A B : Type 0} (f : A → B) (xs : List A) → length (map f xs) ≡ length xs
 map_long f [] = refl
@@ -160,22 +150,29 @@ module _ (program : Program) (flow : Flow) (made : IsMade program flow) where
       let one : Each (IsOwn n l) (l.function.entry ∷ []) = subst (Each (IsOwn n l)) l.is.enters each in
       subst (Has flow.graph n) (sym (entry_is n l)) (has n l.function.entry l one.0)
 
-  module _ (ordered : IsOrder program flow.order.items) where
+  -- a function is no larger than all of them
+  small : (n : ℕ) (l : Found n) → length flow.graph.nodes.items ≤ 60000 → IsSmall program l.f
+  small n l few = below (first_of flow.graph n) (length_of flow.graph n) (length flow.graph.nodes.items) (size_of (body_at program l.f)) (length_is n l) (within n) few
+    where
+      below : (first length nodes size : ℕ) → length ≡ size → first + length ≤ nodes → nodes ≤ 60000 → size ≤ 60000
+      below first length nodes size e l m = omega arith
+
+  module _ (ordered : IsOrder program flow.order.items) (few_nodes : length flow.graph.nodes.items ≤ 60000) where
     callees : (n action callee : ℕ) → Has flow.graph n action → callee_of (transfer_at flow.graph action) ≡ Some callee → callee < n
     callees n action callee h e =
         let l = at_place n (has_place n action h) in
         let i = spot_own n action l h in
         let node = below action (first_of flow.graph n) (length_of flow.graph n) (length flow.graph.nodes.items) h.1 (within n) in
         let named = names flow.order.items (act_at program (spot_at flow action).action) (transfer_at flow.graph action) callee (made.acts action node) e in
-        let before = ordered.inward n l.f named.0 l.named (calls_in program l.f named.0 (spot_at flow action) i named.1) in
+        let before = ordered.inward n l.f named.0 l.named (small n l few_nodes) (calls_in program l.f named.0 (spot_at flow action) i named.1) in
         subst (λ k. k < n) (ordered.one before.0 callee named.0 before.2 named.2) before.1
       where
         below : (action first length nodes : ℕ) → action < first + length → first + length ≤ nodes → action < nodes
         below action first length nodes l m = omega arith
 
-    pub is_graph : flow.graph.main < length flow.graph.functions.items → length flow.graph.nodes.items < 2 ^ 32 → length flow.graph.functions.items < 2 ^ 32
+    pub is_graph : flow.graph.main < length flow.graph.functions.items → length flow.graph.functions.items < 2 ^ 32
         → ((action : ℕ) → length (next_at flow.graph action) < 2 ^ 32) → IsGraph flow.graph
-    is_graph main small functions few = record {
+    is_graph main functions few = record {
       main = main;
       opens = opens_in program flow.graph.functions.items flow.order.items made.functions;
       follows = λ n l. follows_in program 0 flow.graph.functions.items flow.order.items made.functions n l;
@@ -183,7 +180,10 @@ module _ (program : Program) (flow : Flow) (made : IsMade program flow) where
       callees = callees;
       entries = entries;
       stays = stays;
-      small = small;
+      small = fits few_nodes;
       functions = functions;
       few = few;
     }
+      where
+        fits : {n : ℕ} → n ≤ 60000 → n < 2 ^ 32
+        fits l = omega arith

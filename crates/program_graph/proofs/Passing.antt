@@ -1,5 +1,5 @@
 -- A pass goes over one more function.
-use Rattle.std.proofs.Common.{◌≡◌, refl, sym, ap, ◌∙◌, subst, ℕ, zero, suc, ◌+◌, List, [], ◌∷◌, ◌++◌, append-nil, append_assoc, map, Some, slice_get, arith}
+use Rattle.std.proofs.Common.{◌≡◌, refl, sym, ap, ◌∙◌, subst, ℕ, zero, suc, ◌+◌, ◌<◌, ◌≤◌, take, List, [], ◌∷◌, ◌++◌, append-nil, append_assoc, map, Some, slice_get, arith}
 use Rattle.c_program.specs.declared.program.Program.{Program}
 use Rattle.c_program.specs.Syntax.{body_at}
 use Rattle.c_program.specs.Paths.{spots_of}
@@ -52,9 +52,9 @@ module _ (program : Program) where
   pub read_more : (order : List ℕ) (old new : Text) (f : ℕ) (function : Function) → IsRead program order old
       → map spot_of new.spots.items ≡ map spot_of old.spots.items ++ spots_of [] (body_at program f)
       → nexts_in new.rows.items ≡ nexts_in old.rows.items ++ nexts_of (body_at program f) old.nodes [] [] []
-      → new.functions.items ≡ old.functions.items ++ function ∷ [] → IsOf program old.nodes f function → new.nodes ≡ old.nodes + size_of (body_at program f)
+      → new.functions.items ≡ old.functions.items ++ function ∷ [] → IsOf program old.nodes f function → new.nodes ≡ old.nodes + size_of (body_at program f) → new.nodes ≤ 60000
       → IsRead program (order ++ f ∷ []) new
-  read_more order old new f function is spots rows functions of nodes =
+  read_more order old new f function is spots rows functions of nodes few =
       let own = spots_of [] (body_at program f) in
       let place : old.nodes ≡ 0 + total program order = is.nodes ∙ none (total program order) in
       record {
@@ -64,7 +64,34 @@ module _ (program : Program) where
         functions = subst (λ l. AreOf program 0 l (order ++ f ∷ [])) (sym functions)
             (are_more 0 old.functions.items order function f is.functions (subst (λ k. IsOf program k f function) place of));
         nodes = nodes ∙ ap (λ k. k + size_of (body_at program f)) is.nodes ∙ sym (total_more order f);
+        few = few;
       }
     where
       none : (n : ℕ) → n ≡ 0 + n
       none n = omega arith
+
+  -- ---- the first functions of an order
+
+  pub total_take : (order : List ℕ) (n : ℕ) → total program (take n order) ≤ total program order
+  total_take order zero = least (total program order)
+    where
+      least : (m : ℕ) → 0 ≤ m
+      least m = omega arith
+  total_take [] (suc n) = same 0
+    where
+      same : (m : ℕ) → m ≤ m
+      same m = omega arith
+  total_take (f ∷ fs) (suc n) = wider (size_of (body_at program f)) (total program (take n fs)) (total program fs) (total_take fs n)
+    where
+      wider : (a m n : ℕ) → m ≤ n → a + m ≤ a + n
+      wider a m n l = omega arith
+
+  -- one more is too many
+  pub too_many : (order : List ℕ) (n f : ℕ) (text : Text) → take (n + 1) order ≡ take n order ++ f ∷ [] → IsRead program (take n order) text → 60000 < text.nodes + size_of (body_at program f)
+      → 60000 < total program order
+  too_many order n f text e is many =
+      over (text.nodes) (size_of (body_at program f)) (total program (take n order)) (total program (take (n + 1) order)) (total program order)
+      is.nodes (ap (total program) e ∙ total_more (take n order) f) (total_take order (n + 1)) many
+    where
+      over : (nodes size before now all : ℕ) → nodes ≡ before → now ≡ before + size → now ≤ all → 60000 < nodes + size → 60000 < all
+      over nodes size before now all e f l m = omega arith

@@ -1,18 +1,20 @@
 -- What a pass over the bodies has made.
-use Rattle.std.specs.Prelude.{◌≡◌, ◌<◌, ◌^◌, ℕ, ◌+◌, List, [], ◌∷◌, map, Some, slice_get, slice_index, option_map, unwrap_or, length}
+use Rattle.std.specs.Prelude.{◌≡◌, ◌<◌, ◌≤◌, ◌^◌, ℕ, ◌+◌, List, [], ◌∷◌, map, Some, slice_get, slice_index, option_map, unwrap_or, length}
 use Rattle.c_program.specs.declared.program.Program.{Program}
 use Rattle.c_program.specs.Syntax.{act_at, body_at}
+use Rattle.flow_points.specs.Graphs.{IsGraph}
 use Rattle.flow_points.specs.declared.graph.Node.{Node}
 use Rattle.flow_points.specs.declared.transfer.Transfer.{Transfer}
 use Rattle.flow_points.specs.declared.transfer.Transfer.TheVariants.{Exit}
+use Rattle.control_flow.specs.declared.flow.Flow.{Flow}
 use Rattle.control_flow.specs.declared.flow.Spot.{Spot}
 use Rattle.control_flow.specs.declared.rows.Row.{Row}
 use Rattle.control_flow.specs.Labels.{spot_of, spot_in_list, Does}
 use Rattle.control_flow.specs.Layout.{size_of}
-use Rattle.control_flow.specs.Made.{text_spots, nexts_from, behind, AreOf}
+use Rattle.control_flow.specs.Made.{text_spots, nexts_from, behind, AreOf, IsMade}
 use Rattle.control_flow.specs.Rows.{nexts_in}
 use Rattle.program_graph.specs.declared.text.Text.{Text}
-use Rattle.program_graph.specs.Calls.{callee_in}
+use Rattle.program_graph.specs.Calls.{callee_in, IsOrder}
 
 -- how many nodes functions have
 abbrev pub total : Program → List ℕ → ℕ
@@ -25,6 +27,7 @@ pub record IsRead (program : Program) (order : List ℕ) (text : Text) : Type 0 
   pub rows : nexts_in text.rows.items ≡ nexts_from program 0 order
   pub functions : AreOf program 0 text.functions.items order
   pub nodes : text.nodes ≡ total program order
+  pub few : text.nodes ≤ 60000
 
 -- each of the first functions has the number of its place
 pub record ArePlaces (order places : List ℕ) (count : ℕ) : Type 0 where
@@ -36,7 +39,7 @@ IsFound order places function = (function < length places) × (slice_get order (
 
 -- these actions name functions that have places
 abbrev pub AllFound : Program → List Spot → List ℕ → List ℕ → Type 0
-AllFound program spots order places = (n : ℕ) (function : ℕ) → callee_in (act_at program (spot_in_list spots n).action) ≡ Some function → IsFound order places function
+AllFound program spots order places = (n function : ℕ) → n < length spots → callee_in (act_at program (spot_in_list spots n).action) ≡ Some function → IsFound order places function
 
 -- what nodes do to control, and what comes next behind them
 abbrev pub transfer_in : List Node → ℕ → Transfer
@@ -50,3 +53,11 @@ pub record AreNodes (program : Program) (order : List ℕ) (spots : List Spot) (
   pub nexts : map behind nodes ≡ nexts_in rows
   pub acts : (n : ℕ) → n < length nodes → Does order (act_at program (spot_in_list spots n).action) (transfer_in nodes n)
   pub few : (n : ℕ) → length (next_in nodes n) < 2 ^ 32
+
+-- the graph of a program: functions in an order, with all that they need
+pub record IsGraphOf (program : Program) (flow : Flow) : Type 0 where
+  pub order : IsOrder program flow.order.items
+  pub made : IsMade program flow
+  pub graph : IsGraph flow.graph
+  pub few : length flow.graph.nodes.items ≤ 60000
+  pub main : slice_get flow.order.items flow.graph.main ≡ Some program.main

@@ -4,6 +4,8 @@
 mod assembling;
 pub mod callees;
 mod places;
+pub mod stop;
 mod text;
 
 pub use assembling::build;
+pub use stop::GraphStop;

@@ -36,7 +36,8 @@ pub fn transfer(act: &Act, order: &[u32], places: &[u32]) -> Transfer
             Transfer::Create(places[*function as usize])
         }
         Act::Library(LibraryCall::ThreadExit(_), _) => Transfer::Exit,
-        Act::Return(_) | Act::End => Transfer::Return,
+        Act::Return(_) => Transfer::Return,
+        Act::End => Transfer::Return,
         _ => Transfer::Next,
     }
 }

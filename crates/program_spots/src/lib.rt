@@ -2,4 +2,5 @@
 #![tactic(auto)]
 
 pub mod count;
+pub mod laws;
 pub mod spots;
