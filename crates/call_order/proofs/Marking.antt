@@ -1,8 +1,8 @@
 -- Marks are set.
-use Rattle.std.proofs.Common.{◌≡◌, ◌⊎◌, inl, inr, refl, sym, subst, ap, ◌∙◌, ℕ, zero, suc, ◌+◌, ◌<◌, ◌≤◌, Bool, true, false, List, [], ◌∷◌, length, get_or, set, sum_by, Contains, Some, slice_get, replicate, arith, lt_of_lt_of_le, le_of_eq}
+use Rattle.std.proofs.Common.{◌≡◌, ◌⊎◌, inl, inr, refl, sym, subst, ap, ◌∙◌, ℕ, zero, suc, ◌+◌, ◌<◌, ◌≤◌, Bool, true, false, List, [], ◌∷◌, length, get_or, set, sum_by, Contains, Some, slice_get, arith, lt_of_lt_of_le, le_of_eq}
 use Rattle.std.proofs.lemmas.Option.{slice_get_within, slice_get-get_or, get_or_from_slice_get, slice_get_past}
 use Rattle.std.proofs.Math.ListN.{get_or-eq_default}
-use Rattle.std.proofs.lemmas.List.{get_or-set_same, get_or-set_other, length-set, get_or-replicate, length-replicate}
+use Rattle.std.proofs.lemmas.List.{get_or-set_same, get_or-set_other, length-set}
 use Rattle.std.proofs.lemmas.List.Sums.{sum_by-set}
 use Rattle.std.proofs.lemmas.Bool.Decides.{eqb_tells}
 use Rattle.std.specs.Prelude.{option_map, unwrap_or}
@@ -150,32 +150,37 @@ closed_one calls mid new n more is here f g l m names within = elim (cases f n l
 
 module _ (calls : List Callees) (main : ℕ) (marks : List Bool) (long : length marks ≡ length calls) (first : IsMarked marks main) (closed : IsClosedBelow calls marks (length calls)) where
   all : (function : ℕ) → IsNeeded calls main function → function < length calls → IsMarked marks function
-  all main itself l = first
-  all callee (named caller callee n names) l = elim (split caller (length calls)) [
-    | inl known ↦ closed caller callee known (all caller n known) names (subst (λ k. callee < k) (sym long) l)
-    | inr past ↦ absurd (nothing (callees_at calls caller) (ap (λ o. unwrap_or (option_map (λ (c : Callees). c.functions.items) o) []) (slice_get_past calls caller past)) names)
+  all function itself l = first
+  all function (named caller callee n names) l = elim (split caller (length calls)) [
+    | inl known ↦ closed caller function known (all caller n known) names (subst (λ k. function < k) (sym long) l)
+    | inr past ↦ absurd (nothing (callees_at calls caller) function (ap (λ o. unwrap_or (option_map (λ (c : Callees). c.functions.items) o) []) (slice_get_past calls caller past)) names)
   ]
     where
-      nothing : (xs : List ℕ) → xs ≡ [] → Contains xs callee → ⊥
-      nothing xs e c = let w : c.0 < 0 = subst (λ l. c.0 < length l) e c.1 in omega arith
+      nothing : (xs : List ℕ) (x : ℕ) → xs ≡ [] → Contains xs x → ⊥
+      nothing xs x e c = let w : c.0 < 0 = subst (λ l. c.0 < length l) e c.1 in omega arith
 
   pub needed_marked : AllNeeded calls main marks → AreNeeded calls main marks
   needed_marked only = record { long = long; all = all; only = only }
 
-pub only_main : (calls : List Callees) (main count : ℕ) (marks : List Bool) → ((f : ℕ) → IsMarked marks f → IsMarked (replicate count false) f ⊎ (main ≡ f)) → AllNeeded calls main marks
-only_main calls main count marks only f m = elim (only f m) [
-  | inl o ↦ absurd (not_marked f o)
-  | inr same ↦ subst (IsNeeded calls main) same itself
-]
-  where
-    not_both : {b : Bool} → b ≡ false → b ≡ true → ⊥
-    not_both p q = cc
+-- at first the main function alone is marked
+module _ (calls : List Callees) (main : ℕ) (old new : List Bool) (grew : Bool) (none : (f : ℕ) → get_or old f false ≡ false) (more : IsMore old new grew)
+    (only : (f : ℕ) → IsMarked new f → IsMarked old f ⊎ (main ≡ f)) where
+  not_both : {b : Bool} → b ≡ false → b ≡ true → ⊥
+  not_both p q = cc
 
-    not_marked : (f : ℕ) → IsMarked (replicate count false) f → ⊥
-    not_marked f m = elim (split f count) [
-      | inl l ↦ not_both (get_or-replicate count f false false l) m
-      | inr l ↦ not_both (get_or-eq_default (replicate count false) false (lt_le (length-replicate count false) l)) m
-    ]
-      where
-        lt_le : {a b c : ℕ} → a ≡ b → b ≤ c → a ≤ c
-        lt_le e l = omega arith
+  pub only_main : AllNeeded calls main new
+  only_main f m = elim (only f m) [
+    | inl o ↦ absurd (not_both (none f) o)
+    | inr same ↦ subst (IsNeeded calls main) same itself
+  ]
+
+  pub main_grew : IsMarked new main → grew ≡ false → ⊥
+  main_grew first e = go grew more.grows e
+    where
+      go : (b : Bool) → Grows old new b → b ≡ false → ⊥
+      go true g e = cc
+      go false g e = not_both (none main) (subst (λ xs. IsMarked xs main) g first)
+
+-- what the table has at a place
+pub callees_are : (calls : List Callees) (function : ℕ) (callees : Callees) → function < length calls → callees ≡ get_or calls function callees → callees_at calls function ≡ callees.functions.items
+callees_are calls function callees l e = ap (λ o. unwrap_or (option_map (λ (c : Callees). c.functions.items) o) []) (slice_get-get_or calls function callees l ∙ ap Some (sym e))

@@ -8,7 +8,7 @@ use Rattle.std.specs.List.{list_all}
 use Rattle.call_order.specs.declared.calls.Callees.{Callees}
 use Rattle.call_order.specs.declared.placing.Placing.{Placing}
 use Rattle.call_order.specs.Orders.{callees_at, Names, IsNeeded, itself, named, IsLayered, IsOrder}
-use Rattle.call_order.specs.Marks.{IsMarked, AreNeeded}
+use Rattle.call_order.specs.Marks.{IsMarked, unmarked, Grows, AreNeeded}
 use Rattle.call_order.specs.Placings.{IsPlaced, IsPlacing, IsStuck, IsStuckBelow}
 use Rattle.call_order.proofs.Marking.{place_of, contained, marked_within}
 
@@ -43,6 +43,56 @@ passes p (y ∷ xs) (suc k) x a e = passes p xs k x (rest (p y) refl a) e
     rest : (b : Bool) → p y ≡ b → list_all p (y ∷ xs) ≡ true → list_all p xs ≡ true
     rest true is all = cc
     rest false is all = cc
+
+-- what one of these fails
+fails : {A : Type 0} (p : A → Bool) (xs : List A) → list_all p xs ≡ false → (x : A) × Contains xs x × (p x ≡ false)
+fails p [] e = cc
+fails p (y ∷ xs) e = go (p y) refl (λ rest. fails p xs rest)
+  where
+    more : (x : _) → Contains xs x → Contains (y ∷ xs) x
+    more x c = (suc c.0, omega (arith, c.1), c.2)
+
+    first : Contains (y ∷ xs) y
+    first = (0, omega arith, refl)
+
+    go : (b : Bool) → p y ≡ b → (list_all p xs ≡ false → (x : _) × Contains xs x × (p x ≡ false)) → (x : _) × Contains (y ∷ xs) x × (p x ≡ false)
+    go true is f = let rest : list_all p xs ≡ false = cc in let r = f rest in (r.0, more r.0 r.1, r.2)
+    go false is f = (y, first, is)
+
+pub names_unplaced : (calls : List Callees) (placed : List Bool) (function : ℕ) (xs : List ℕ) → xs ≡ callees_at calls function → list_all (λ f. get_or placed f false) xs ≡ false
+    → (x : ℕ) × Names calls function x × (get_or placed x false ≡ false)
+names_unplaced calls placed function xs e a = let f = fails (λ f. get_or placed f false) xs a in (f.0, subst (λ ys. Contains ys f.0) e f.1, f.2)
+
+-- ---- after one function of a round
+
+module _ (calls : List Callees) (needed : List Bool) (first old new : Placing) (grew placed after : Bool) (n : ℕ) (so_far : Grows first.placed.items old.placed.items grew)
+    (step : Grows old.placed.items new.placed.items placed) (stuck : grew ≡ false → IsStuckBelow calls needed old n) where
+  not_both : {b : Bool} → b ≡ true → b ≡ false → ⊥
+  not_both p q = cc
+
+  less : {x y z : ℕ} → x < y → y < z → x < z
+  less l m = omega arith
+
+  pub round_placed : placed ≡ true → after ≡ true → Grows first.placed.items new.placed.items after × (after ≡ false → IsStuckBelow calls needed new (n + 1))
+  round_placed p a = (subst (Grows first.placed.items new.placed.items) (sym a) (go grew so_far (subst (Grows old.placed.items new.placed.items) p step)), λ e. absurd (not_both a e))
+    where
+      go : (b : Bool) → Grows first.placed.items old.placed.items b → unmarked new.placed.items < unmarked old.placed.items → unmarked new.placed.items < unmarked first.placed.items
+      go true g l = less l g
+      go false g l = subst (λ xs. unmarked new.placed.items < unmarked xs) g l
+
+  pub round_kept : placed ≡ false → after ≡ grew → IsStuck calls needed new n → Grows first.placed.items new.placed.items after × (after ≡ false → IsStuckBelow calls needed new (n + 1))
+  round_kept p a here =
+      let same : new.placed.items ≡ old.placed.items = subst (Grows old.placed.items new.placed.items) p step in
+      (
+        subst (λ b. Grows first.placed.items new.placed.items b) (sym a) (subst (λ xs. Grows first.placed.items xs grew) (sym same) so_far),
+        λ e f l. elim (cases f l) [
+          | inl before ↦ (λ marked. subst (λ xs. IsMarked xs f ⊎ ((x : ℕ) × Names calls f x × (get_or xs x false ≡ false))) (sym same) (stuck (sym a ∙ e) f before marked))
+          | inr last ↦ subst (IsStuck calls needed new) (sym last) here
+        ],
+      )
+    where
+      cases : (f : ℕ) → f < n + 1 → (f < n) ⊎ (f ≡ n)
+      cases f l = grind arith
 
 -- ---- one more
 
@@ -135,11 +185,11 @@ module _ (calls : List Callees) (main : ℕ) (needed : List Bool) (placing : Pla
 
 module _ (calls : List Callees) (main : ℕ) (needed : List Bool) (placing : Placing) (are : AreNeeded calls main needed) (is : IsPlacing calls needed placing) (placed : IsPlaced placing main) where
   each : (function : ℕ) → IsNeeded calls main function → Contains placing.order.items function
-  each main itself = is.each main placed
-  each callee (named caller callee n names) =
+  each function itself = is.each main placed
+  each function (named caller callee n names) =
       let at = place_of placing.order.items caller (each caller n) in
-      let before = is.inward at.0 caller callee at.1 names in
-      contained placing.order.items before.0 callee before.2
+      let before = is.inward at.0 caller function at.1 names in
+      contained placing.order.items before.0 function before.2
 
   pub in_order : IsOrder calls main placing.order.items
   in_order = record {

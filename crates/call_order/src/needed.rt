@@ -76,13 +76,23 @@ fn round(marks: &mut Vec<bool>, calls: &[Callees]) -> bool
     grew
 }
 
+/// Marks of so many functions, none of which is marked.
+pub(crate) fn none_marked(alloc: Global, count: usize) -> Result<Vec<bool>, AllocError>
+    requires { count < 2 ^ 32 }
+    ensures long { IfOk result (λ marks. length marks.items ≡ count) }
+    ensures none { IfOk result (λ marks. (function : ℕ) → slice_index_or marks.items function false ≡ false) }
+{
+    let marks = vec![in alloc; false; count]?;
+    Ok(marks)
+}
+
 /// For each function whether it is needed.
 pub(crate) fn needed(alloc: Global, calls: &[Callees], main: u32) -> Result<Vec<bool>, AllocError>
     requires few { length calls.now < 2 ^ 32 }
     requires main { main < length calls.now }
     ensures { IfOk result (λ marks. AreNeeded calls.now main marks.items) }
 {
-    let mut marks = vec![in alloc; false; calls.len()]?;
+    let mut marks = none_marked(alloc, calls.len())?;
     let mut grew = mark(&mut marks, main);
     while grew {
         grew = round(&mut marks, calls);

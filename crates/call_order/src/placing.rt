@@ -7,7 +7,7 @@ ghost use Rattle.call_order.specs.Placings.{IsPlacing, IsStuck, IsStuckBelow};
 ghost use Rattle.call_order.specs.Stops.{StopsBy};
 
 use crate::calls::Callees;
-use crate::needed::{is_marked, needed};
+use crate::needed::{is_marked, needed, none_marked};
 use std::alloc::{AllocError, Global};
 
 /// The functions that are placed.
@@ -25,7 +25,7 @@ impl Placing {
         ensures none { IfOk result (λ p. (f : ℕ) → slice_index_or p.placed.items f false ≡ false) }
         ensures order { IfOk result (λ p. length p.order.items ≡ 0) }
     {
-        let placed = vec![in alloc; false; count]?;
+        let placed = none_marked(alloc, count)?;
         Ok(Placing {
             placed,
             order: Vec::new(alloc),

@@ -77,7 +77,7 @@ module _ (program : Program) (flow : Flow) (made : IsMade program flow) where
 
   -- ---- ranges
 
-  has_place : (n action : ℕ) → Has flow.graph n action → n < length flow.graph.functions.items
+  pub has_place : (n action : ℕ) → Has flow.graph n action → n < length flow.graph.functions.items
   has_place n action has = elim (split n (length flow.graph.functions.items)) [
     | inl l ↦ l
     | inr g ↦ (let none = slice_get_past flow.graph.functions.items n g in
@@ -91,23 +91,23 @@ module _ (program : Program) (flow : Flow) (made : IsMade program flow) where
       empty : (action first length : ℕ) → first ≡ 0 → length ≡ 0 → action < first + length → ⊥
       empty action first length p q l = omega arith
 
-  abbrev Found : ℕ → Type 0
+  abbrev pub Found : ℕ → Type 0
   Found n = Laid program (spot_at flow) (next_at flow.graph) flow.graph.functions.items flow.order.items n
 
-  first_is : (n : ℕ) (l : Found n) → first_of flow.graph n ≡ l.function.first
+  pub first_is : (n : ℕ) (l : Found n) → first_of flow.graph n ≡ l.function.first
   first_is n l = ap (λ (o : Option Function). unwrap_or (option_map (λ f. f.first) o) 0) l.got
 
-  length_is : (n : ℕ) (l : Found n) → length_of flow.graph n ≡ size_of (body_at program l.f)
+  pub length_is : (n : ℕ) (l : Found n) → length_of flow.graph n ≡ size_of (body_at program l.f)
   length_is n l = ap (λ (o : Option Function). unwrap_or (option_map (λ f. f.length) o) 0) l.got ∙ l.is.long
 
   entry_is : (n : ℕ) (l : Found n) → entry_of flow.graph n ≡ l.function.entry
   entry_is n l = ap (λ (o : Option Function). unwrap_or (option_map (λ f. f.entry) o) 0) l.got
 
   -- in the range of a function
-  abbrev IsOwn : (n : ℕ) → Found n → ℕ → Type 0
+  abbrev pub IsOwn : (n : ℕ) → Found n → ℕ → Type 0
   IsOwn n l k = (l.function.first ≤ k) × (k < l.function.first + size_of (body_at program l.f))
 
-  own : (n action : ℕ) (l : Found n) → Has flow.graph n action → IsOwn n l action
+  pub own : (n action : ℕ) (l : Found n) → Has flow.graph n action → IsOwn n l action
   own n action l has = (
     subst (λ k. k ≤ action) (first_is n l) has.0,
     subst (λ k. action < l.function.first + k) (length_is n l) (subst (λ k. action < k + length_of flow.graph n) (first_is n l) has.1),

@@ -39,7 +39,10 @@ pub(crate) fn body(program: &Program, function: u32) -> &Statement
     requires { function < length program.now.functions }
     ensures { result.now ≡ body_at program.now function }
 {
-    &program.functions[function as usize].body
+    match program.function(function) {
+        Some(f) => &f.body,
+        None => unreachable!(),
+    }
 }
 
 /// The actions of a function in their turns, and none where there are more than a program may have.
