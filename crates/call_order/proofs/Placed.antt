@@ -161,8 +161,8 @@ module _ (calls : List Callees) (needed : List Bool) (old new : Placing) (functi
 -- what names only what is placed is placed, and so all that is needed is
 module _ (calls : List Callees) (main : ℕ) (needed : List Bool) (placing : Placing) (are : AreNeeded calls main needed) (layered : IsLayered calls main)
     (stuck : IsStuckBelow calls needed placing (length calls)) where
-  not_both : (f : ℕ) → get_or placing.placed.items f false ≡ true → get_or placing.placed.items f false ≡ false → ⊥
-  not_both f p q = cc
+  never_both : (f : ℕ) → get_or placing.placed.items f false ≡ true → get_or placing.placed.items f false ≡ false → ⊥
+  never_both f p q = cc
 
   lower : {a b c : ℕ} → a < b → b < suc c → a < c
   lower l m = omega arith
@@ -174,14 +174,14 @@ module _ (calls : List Callees) (main : ℕ) (needed : List Bool) (placing : Pla
   up_to zero function n l b = absurd (none b)
   up_to (suc h) function n l b = elim (stuck function l (are.all function n l)) [
     | inl p ↦ p
-    | inr s ↦ absurd (not_both s.0 (up_to h s.0 (named function s.0 n s.1) (layered.known function s.0 n s.1) (lower (layered.above function s.0 n s.1) b)) s.2)
+    | inr s ↦ absurd (never_both s.0 (up_to h s.0 (named function s.0 n s.1) (layered.known function s.0 n s.1) (lower (layered.above function s.0 n s.1) b)) s.2)
   ]
 
   next : (n : ℕ) → n < suc n
   next n = omega arith
 
   pub main_placed : main < length calls → get_or placing.placed.items main false ≡ false → ⊥
-  main_placed l e = not_both main (up_to (suc (layered.height main)) main itself l (next (layered.height main))) e
+  main_placed l e = never_both main (up_to (suc (layered.height main)) main itself l (next (layered.height main))) e
 
 module _ (calls : List Callees) (main : ℕ) (needed : List Bool) (placing : Placing) (are : AreNeeded calls main needed) (is : IsPlacing calls needed placing) (placed : IsPlaced placing main) where
   each : (function : ℕ) → IsNeeded calls main function → Contains placing.order.items function
