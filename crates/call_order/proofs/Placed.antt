@@ -1,5 +1,5 @@
 -- One more function is placed; and where none can be, all are.
-use Rattle.std.proofs.Common.{◌≡◌, ◌⊎◌, inl, inr, refl, sym, subst, ap, ◌∙◌, ℕ, zero, suc, ◌+◌, ◌<◌, ◌≤◌, Bool, true, false, List, [], ◌∷◌, ◌++◌, length, get_or, set, Contains, Some, None, slice_get, arith, lt_of_lt_of_le}
+use Rattle.std.proofs.Common.{◌≡◌, ◌⊎◌, inl, inr, refl, sym, subst, ap, ◌∙◌, ℕ, zero, suc, ◌+◌, ◌<◌, Bool, true, false, List, [], ◌∷◌, ◌++◌, length, get_or, set, Contains, Some, slice_get, arith}
 use Rattle.std.proofs.lemmas.Option.{slice_get_within}
 use Rattle.std.proofs.lemmas.List.{get_or-set_same, get_or-set_other, length-set}
 use Rattle.std.proofs.lemmas.List.Elements.{Contains-push, Contains-append_left}
@@ -82,8 +82,7 @@ module _ (calls : List Callees) (needed : List Bool) (first old new : Placing) (
 
   pub round_kept : placed ≡ false → after ≡ grew → IsStuck calls needed new n → Grows first.placed.items new.placed.items after × (after ≡ false → IsStuckBelow calls needed new (n + 1))
   round_kept p a here =
-      let same : new.placed.items ≡ old.placed.items = subst (Grows old.placed.items new.placed.items) p step in
-      (
+      let same : new.placed.items ≡ old.placed.items = subst (Grows old.placed.items new.placed.items) p step in (
         subst (λ b. Grows first.placed.items new.placed.items b) (sym a) (subst (λ xs. Grows first.placed.items xs grew) (sym same) so_far),
         λ e f l. elim (cases f l) [
           | inl before ↦ (λ marked. subst (λ xs. IsMarked xs f ⊎ ((x : ℕ) × Names calls f x × (get_or xs x false ≡ false))) (sym same) (stuck (sym a ∙ e) f before marked))

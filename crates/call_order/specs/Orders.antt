@@ -1,5 +1,5 @@
 -- Orders of functions.
-use Rattle.std.specs.Prelude.{◌≡◌, ◌<◌, ℕ, Bool, true, false, List, [], Some, slice_get, slice_index_or, option_map, unwrap_or, length}
+use Rattle.std.specs.Prelude.{◌≡◌, ◌<◌, ℕ, List, [], Some, slice_get, option_map, unwrap_or, length}
 use Rattle.std.specs.List.{Contains}
 use Rattle.call_order.specs.declared.calls.Callees.{Callees}
 

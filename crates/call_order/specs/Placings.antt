@@ -1,5 +1,5 @@
 -- What is placed.
-use Rattle.std.specs.Prelude.{◌≡◌, ◌<◌, ◌⊎◌, ℕ, Bool, true, false, List, Some, slice_get, slice_index_or, length}
+use Rattle.std.specs.Prelude.{◌≡◌, ◌<◌, ◌⊎◌, ℕ, Bool, false, List, Some, slice_get, slice_index_or, length}
 use Rattle.std.specs.List.{Contains}
 use Rattle.call_order.specs.declared.calls.Callees.{Callees}
 use Rattle.call_order.specs.declared.placing.Placing.{Placing}

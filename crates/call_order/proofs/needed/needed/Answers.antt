@@ -1,4 +1,4 @@
-use Rattle.std.proofs.Common.{◌≡◌, ◌<◌, sym, ◌∙◌, subst}
+use Rattle.std.proofs.Common.{◌<◌, sym, ◌∙◌, subst}
 use Rattle.call_order.proofs.Marking.{only_main, main_grew, needed_marked}
 use Rattle.call_order.proofs.needed.needed.Goals as goal
 

@@ -1,4 +1,4 @@
-use Rattle.std.proofs.Common.{◌≡◌, sym, ◌∙◌, subst, rules, false, true, slice_index_or}
+use Rattle.std.proofs.Common.{◌≡◌, subst, rules, false, true, slice_index_or}
 use Rattle.call_order.specs.Marks.{AreNeeded}
 use Rattle.call_order.proofs.Placed.{in_order, main_placed}
 use Rattle.call_order.proofs.placing.order.Goals as goal
@@ -14,4 +14,4 @@ returns c =
     let same : c.in-Ok.needed.items ≡ c.as_slice.result.now = search rules in
     let not_placed : slice_index_or c.in-Ok-place_all.placing.placed.items c.args.main false ≡ false = search rules in
     λ layered. main_placed c.args.calls.now c.args.main c.as_slice.result.now c.in-Ok-place_all.placing (subst (AreNeeded c.args.calls.now c.args.main) same c.in-Ok.ensures) layered
-        c.in-Ok-place_all.ensures.stuck c.requires.main not_placed
+    c.in-Ok-place_all.ensures.stuck c.requires.main not_placed

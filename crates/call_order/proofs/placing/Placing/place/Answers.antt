@@ -1,4 +1,4 @@
-use Rattle.std.proofs.Common.{◌≡◌, ◌++◌, ◌∷◌, [], true, false, sym, ◌∙◌, subst, inr, rules, set, slice_index_or}
+use Rattle.std.proofs.Common.{◌≡◌, true, false, sym, ◌∙◌, subst, inr, rules, slice_index_or}
 use Rattle.std.specs.List.{list_all}
 use Rattle.call_order.specs.Marks.{IsMarked}
 use Rattle.call_order.specs.Orders.{callees_at}
@@ -21,5 +21,5 @@ returns-clause-placing c =
     let fresh : slice_index_or c.args.self.now.placed.items c.args.function false ≡ false = search rules in
     let wanted : IsMarked c.args.needed.now c.args.function = search rules in
     placed_more c.args.calls.now c.args.needed.now c.args.self.now _ c.args.function c.requires.function fresh
-        (subst (λ xs. list_all (λ f. slice_index_or c.args.self.now.placed.items f false) xs ≡ true) same (sym c.are_placed.ensures ∙ are))
-        (search rules) (search rules) wanted c.requires.placing
+    (subst (λ xs. list_all (λ f. slice_index_or c.args.self.now.placed.items f false) xs ≡ true) same (sym c.are_placed.ensures ∙ are))
+    (search rules) (search rules) wanted c.requires.placing
