@@ -2,6 +2,7 @@
 use Rattle.std.proofs.Common.{◌≡◌, ◌⊎◌, inl, inr, refl, sym, ap, ◌∙◌, subst, true, false, Bool, ◌&&◌, nat_lt, pos, ◌+◌, ◌+ℤ◌, ◌-ℤ◌, ℕ, zero, suc, ◌<◌, length, length-append, append_assoc, arith, List, [], ◌∷◌, ◌++◌, Some, None, slice_get}
 use Rattle.std.proofs.Math.IntN.{+ℤ_comm, +ℤ-neg_ℤ_cancel}
 use Rattle.std.specs.Prelude.{option_map, unwrap_or}
+use Rattle.std.proofs.lemmas.Bool.Decides.{nat_tests}
 use Rattle.c_program.specs.declared.statement.Condition.{Condition, Test, And', Or', Row_of-Condition, more_of-Condition, end_of-Condition}
 use Rattle.c_program.specs.declared.statement.Counter.{Counter}
 use Rattle.c_program.specs.declared.statement.Statement.{Statement, Do, Block', Switch', Break, Continue, Row_of-Statement, end_of-Statement, more_of-Statement}
@@ -139,11 +140,7 @@ differ_turns counter actions ending (suc n) f h d = differ_both (each_turn n f) 
     (each_in (IsFrom actions (round_of counter t.turn ∷ ending)) x (f t.turn) (h t.turn) t.is_in).ends (each_in (IsFrom actions (round_of counter n ∷ ending)) x (f n) (h n) j).ends))
   where
     later : (k n : ℕ) → nat_lt k n ≡ true → k ≡ n → ⊥
-    later k n l e = apart_from n (subst (λ m. nat_lt m n ≡ true) e l)
-      where
-        apart_from : (n : ℕ) → nat_lt n n ≡ true → ⊥
-        apart_from zero l = cc
-        apart_from (suc n) l = apart_from n l
+    later k n l e = let m : nat_lt n n ≡ true = subst (λ i. nat_lt i n ≡ true) e l in grind (arith, nat_tests)
 
 mutual
   pub differ : (rounds : List Round) (s : Statement) → all_differ (actions_of s) ≡ true → Differ (spots_of rounds s)
