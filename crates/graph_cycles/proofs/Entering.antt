@@ -127,7 +127,7 @@ module _ (edges : List Edges) (old new : Search) (node : ℕ) (within : node < l
 
   linked : IsLinked edges new
   linked = record {
-    fresh = λ a e. elim (not_open a e) [ inl no ↦ absurd no | inr o ↦ still_left a ∙ is.linked.fresh a o ];
+    fresh = λ a e. elim (not_open a e) [ inl wrong ↦ absurd wrong | inr o ↦ still_left a ∙ is.linked.fresh a o ];
     onward = λ i j a b le e f. elim (got j b f) [
       | inl g ↦ elim (got i a e) [ inl h ↦ is.linked.onward i j a b le h g | inr h ↦ absurd (let w = slice_get_within old.active.items j b g in beyond h.0 le w) ]
       | inr g ↦ elim (got i a e) [ inl h ↦ subst (Reaches edges a) g.1 (reached i a h) | inr h ↦ inl (sym h.1 ∙ g.1) ]

@@ -90,8 +90,8 @@ module _ (edges : List Edges) (old new : Search) (end : ℕ) (path : old.path.it
   group_there : Contains old.groups.items end
   group_there = subst (λ xs. Contains xs end) (sym groups) (Contains-push new.groups.items end)
 
-  was_group : (b : ℕ) → Contains new.groups.items b → Contains old.groups.items b
-  was_group b c = subst (λ xs. Contains xs b) (sym groups) (Contains-append_left new.groups.items (end ∷ []) b c)
+  group_was : (b : ℕ) → Contains new.groups.items b → Contains old.groups.items b
+  group_was b c = subst (λ xs. Contains xs b) (sym groups) (Contains-append_left new.groups.items (end ∷ []) b c)
 
   in_groups : (b : ℕ) → Contains old.groups.items b → Contains new.groups.items b ⊎ (end ≡ b)
   in_groups b c = Contains-push_cases new.groups.items end b (subst (λ xs. Contains xs b) groups c)
@@ -151,8 +151,8 @@ module _ (edges : List Edges) (old new : Search) (end : ℕ) (path : old.path.it
   still_closed : (a : ℕ) → place_at old a ≡ Closed → place_at new a ≡ Closed
   still_closed a e = (others a (stays_closed a e)).0 ∙ e
 
-  still_left : (a : ℕ) → left_at new a ≡ left_at old a
-  still_left a = ap (λ xs. get_or xs a 0) left
+  left_still : (a : ℕ) → left_at new a ≡ left_at old a
+  left_still a = ap (λ xs. get_or xs a 0) left
 
   -- ---- what is closed
 
@@ -224,7 +224,7 @@ module _ (edges : List Edges) (old new : Search) (end : ℕ) (path : old.path.it
 
   -- a group of one node is left for good
   alone : (i a b : ℕ) → At old i a → end ≤ i → length old.active.items ≤ end + 1 → Leads edges a b → Edge edges a a ⊎ (place_at old b ≡ Closed)
-  alone i a b e l few (one a b edge) = elim (leads_out i a b e l edge) [
+  alone i a b e l few (one x y edge) = elim (leads_out i a b e l edge) [
     | inl c ↦ inr c
     | inr o ↦ (let w = slice_get_within old.active.items i a e in let v = slice_get_within old.active.items o.0 b o.1 in
         let at : o.0 ≡ i = same few w v l o.2 in
@@ -237,7 +237,7 @@ module _ (edges : List Edges) (old new : Search) (end : ℕ) (path : old.path.it
 
       same_node : {a b : ℕ} → At old i b → At old i a → b ≡ a
       same_node e f = cc
-  alone i a b e l few (more a c b m edge) = elim (alone i a c e l few m) [
+  alone i a b e l few (more x c y m edge) = elim (alone i a c e l few m) [
     | inl self ↦ inl self
     | inr was ↦ inr (is.settled.closed c b was edge)
   ]
@@ -256,11 +256,11 @@ module _ (edges : List Edges) (old new : Search) (end : ℕ) (path : old.path.it
 
   -- ---- what stays open
 
-  still_followed : (i b : ℕ) → IsFollowed old i b → IsFollowed new i b
-  still_followed i b f = elim f [
+  followed_still : (i b : ℕ) → IsFollowed old i b → IsFollowed new i b
+  followed_still i b f = elim f [
     | inl c ↦ inl (still_closed b c)
     | inr o ↦ elim (split o.0 end) [
-      | inl before ↦ inr (o.0, keep o.0 b o.1 before, λ begin c low high. o.2 begin (was_group begin c) low high)
+      | inl before ↦ inr (o.0, keep o.0 b o.1 before, λ begin c low high. o.2 begin (group_was begin c) low high)
       | inr after ↦ inl (closes o.0 b o.1 after)
     ]
   ]
@@ -269,17 +269,17 @@ module _ (edges : List Edges) (old new : Search) (end : ℕ) (path : old.path.it
   linked = record {
     fresh = λ a e. elim (case a) [
       | inl c ↦ absurd (let p = closes c.0 a c.1 c.2 in cc)
-      | inr s ↦ still_left a ∙ is.linked.fresh a (sym (others a s).0 ∙ e)
+      | inr s ↦ left_still a ∙ is.linked.fresh a (sym (others a s).0 ∙ e)
     ];
     onward = λ i j a b le e f. is.linked.onward i j a b le (cut i a e).0 (cut j b f).0;
     back = λ i j a b le joins e f. is.linked.back i j a b le (λ begin c low high. elim (in_groups begin c) [
       | inl o ↦ joins begin o low high
       | inr same ↦ late same high (cut j b f).1
     ]) (cut i a e).0 (cut j b f).0;
-    followed = λ i a k b e l g. still_followed i b (is.linked.followed i a k b (cut i a e).0 (subst (λ n. n ≤ k) (still_left a) l) g);
+    followed = λ i a k b e l g. followed_still i b (is.linked.followed i a k b (cut i a e).0 (subst (λ n. n ≤ k) (left_still a) l) g);
     done = λ i a e. elim (is.linked.done i a (cut i a e).0) [
       | inl p ↦ elim (in_path i p) [ inl o ↦ inl o | inr same ↦ absurd (here same (cut i a e).1) ]
-      | inr z ↦ inr (still_left a ∙ z)
+      | inr z ↦ inr (left_still a ∙ z)
     ];
   }
     where
@@ -294,7 +294,7 @@ module _ (edges : List Edges) (old new : Search) (end : ℕ) (path : old.path.it
     path = rising_left new.path.items (end ∷ []) (subst IsRising path is.grouped.path);
     within = λ p c. subst (λ n. p < n) (sym count) (before_end p c);
     groups = rising_left new.groups.items (end ∷ []) (subst IsRising groups is.grouped.groups);
-    on_path = λ b c. elim (in_path b (is.grouped.on_path b (was_group b c))) [
+    on_path = λ b c. elim (in_path b (is.grouped.on_path b (group_was b c))) [
       | inl o ↦ o
       | inr e ↦ absurd (same e (rising_last new.groups.items end b (subst IsRising groups is.grouped.groups) c))
     ];

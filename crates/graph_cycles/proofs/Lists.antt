@@ -69,10 +69,10 @@ rising_last xs x y r c = let p = place_of xs y c in
 -- ---- the first of a list
 
 pub got_take : {A : Type 0} (count : ℕ) (xs : List A) (k : ℕ) (x : A) → slice_get (take count xs) k ≡ Some x → (slice_get xs k ≡ Some x) × (k < count)
-got_take zero xs k x e = absurd (none xs e)
+got_take zero xs k x e = absurd (none xs k x e)
   where
-    none : {A : Type 0} {k : ℕ} {x : A} (xs : List A) → slice_get (take 0 xs) k ≡ Some x → ⊥
-    none xs e = cc
+    none : {A : Type 0} (xs : List A) (k : ℕ) (x : A) → slice_get (take 0 xs) k ≡ Some x → ⊥
+    none xs k x e = cc
 got_take (suc count) [] k x e = absurd (cc)
 got_take (suc count) (y ∷ xs) zero x e = (e, omega arith)
 got_take (suc count) (y ∷ xs) (suc k) x e = let r = got_take count xs k x e in (r.0, omega (arith, r.1))

@@ -6,8 +6,8 @@ use Rattle.graph_cycles.specs.Searches.{Reaches}
 
 module _ (edges : List Edges) where
   pub leads_on : (a b c : ℕ) → Leads edges a b → Leads edges b c → Leads edges a c
-  leads_on a b c l (one b c e) = more a b c l e
-  leads_on a b c l (more b d c m e) = more a d c (leads_on a b d l m) e
+  leads_on a b c l (one x y e) = more a b c l e
+  leads_on a b c l (more x d y m e) = more a d c (leads_on a b d l m) e
 
   pub reaches_on : (a b c : ℕ) → Reaches edges a b → Reaches edges b c → Reaches edges a c
   reaches_on a b c (inl e) r = subst (λ n. Reaches edges n c) (sym e) r
