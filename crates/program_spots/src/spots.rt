@@ -82,6 +82,21 @@ pub fn add_spots(
     }
 }
 
+/// Adds the spot of the condition of a counted loop before a turn.
+fn add_test_spot(
+    alloc: Global,
+    counter: Counter,
+    turn: u32,
+    rounds: &[Round],
+    spots: &mut Vec<Spot>,
+) -> Result<(), AllocError>
+    ensures { OnOk result (map spot_of spots.new.items ≡ map spot_of spots.old.items ++ in_rounds (round_in counter turn ∷ map round_of rounds.now) counter.test ∷ []) }
+{
+    let inner = inner_rounds(alloc, counter, turn, rounds)?;
+    add_spot(alloc, counter.test, inner.as_slice(), spots)?;
+    Ok(())
+}
+
 /// Adds the spots of the condition of a counted loop: one more than it has turns.
 fn add_test_spots(
     alloc: Global,
@@ -92,10 +107,10 @@ fn add_test_spots(
     ensures { OnOk result (map spot_of spots.new.items
         ≡ map spot_of spots.old.items ++ each_turn (suc counter.turns) (λ turn. in_rounds (round_in counter turn ∷ map round_of rounds.now) counter.test ∷ [])) }
 {
-    for turn in 0..=counter.turns {
-        let inner = inner_rounds(alloc, counter, turn, rounds)?;
-        add_spot(alloc, counter.test, inner.as_slice(), spots)?;
+    for turn in 0..counter.turns {
+        add_test_spot(alloc, counter, turn, rounds, spots)?;
     }
+    add_test_spot(alloc, counter, counter.turns, rounds, spots)?;
     Ok(())
 }
 
