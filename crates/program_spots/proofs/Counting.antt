@@ -1,5 +1,5 @@
 -- Counts of parts, added up.
-use Rattle.std.proofs.Common.{◌≡◌, ◌∙◌, refl, sym, ap, min, arith, ℕ, zero, suc, ◌+◌, ◌≤◌, List}
+use Rattle.std.proofs.Common.{◌≡◌, ◌∙◌, refl, ap, arith, ℕ, zero, suc, ◌+◌, ◌≤◌, List}
 use Rattle.c_program.specs.declared.statement.Condition.{Condition}
 use Rattle.c_program.specs.declared.statement.Condition as condition
 use Rattle.c_program.specs.declared.statement.Counter.{Counter}

@@ -1,5 +1,5 @@
 -- An action stands once in a body in each of its turns.
-use Rattle.std.proofs.Common.{◌≡◌, ◌⊎◌, inl, inr, refl, sym, ap, ◌∙◌, subst, true, false, Bool, ◌&&◌, nat_lt, pos, ◌+◌, ◌+ℤ◌, ◌-ℤ◌, ℕ, zero, suc, ◌<◌, length, length-append, append_assoc, arith, List, [], ◌∷◌, ◌++◌, Some, None, slice_get}
+use Rattle.std.proofs.Common.{◌≡◌, inl, inr, refl, sym, ap, ◌∙◌, subst, true, nat_lt, pos, ◌+◌, ◌+ℤ◌, ◌-ℤ◌, ℕ, zero, suc, length, length-append, append_assoc, arith, List, [], ◌∷◌, ◌++◌, Some, slice_get}
 use Rattle.std.proofs.Math.IntN.{+ℤ_comm, +ℤ-neg_ℤ_cancel}
 use Rattle.std.specs.Prelude.{option_map, unwrap_or}
 use Rattle.std.proofs.lemmas.Bool.Decides.{nat_tests}
@@ -12,7 +12,6 @@ use Rattle.c_program.specs.Syntax.{Not, After, If, Loop, Counted, body_at}
 use Rattle.c_program.specs.Control.{Round, round_of, Spot}
 use Rattle.c_program.specs.Paths.{actions_of, actions_of_all, actions_of_condition, actions_of_conditions, in_rounds, each_turn, spots_of, spots_of_all, spots_of_condition, spots_of_conditions}
 use Rattle.c_program.specs.WellFormed.{IsWellFormed, all_differ, text_of}
-use Rattle.c_program.proofs.Cells.{and_true}
 use Rattle.c_program.proofs.Members.{In, Each, each_append, each_in, each_turns, in_left, in_right, in_append, in_got, turned, apart, differ_left, differ_right}
 use Rattle.c_program.proofs.Sites.{EndsWith}
 use Rattle.program_spots.specs.Once.{StandsOnce}
@@ -55,8 +54,7 @@ mutual
   from rounds (If c s t) = both (actions_of_condition c) (actions_of s ++ actions_of t) rounds _ _ (from_condition rounds c) (both (actions_of s) (actions_of t) rounds _ _ (from rounds s) (from rounds t))
   from rounds (Loop s t) = both (actions_of s) (actions_of t) rounds _ _ (from rounds s) (from rounds t)
   from rounds (Counted counter body) =
-      let actions = actions_of (Counted counter body) in
-      (
+      let actions = actions_of (Counted counter body) in (
         own counter.start actions rounds (inl refl),
         each_append (IsFrom actions rounds) _ _
             (each_turns (IsFrom actions rounds) (suc counter.turns) _ (λ turn l. (inner counter.test actions (round_of counter turn) rounds (inr (inl refl)), tt)))
@@ -149,8 +147,8 @@ mutual
   differ rounds (If c s t) d =
       let e = differ_right (actions_of_condition c) (actions_of s ++ actions_of t) d in
       joined (actions_of_condition c) (actions_of s ++ actions_of t) rounds _ _ d (from_condition rounds c) (both (actions_of s) (actions_of t) rounds _ _ (from rounds s) (from rounds t))
-          (differ_condition rounds c (differ_left (actions_of_condition c) (actions_of s ++ actions_of t) d))
-          (joined (actions_of s) (actions_of t) rounds _ _ e (from rounds s) (from rounds t) (differ rounds s (differ_left (actions_of s) (actions_of t) e)) (differ rounds t (differ_right (actions_of s) (actions_of t) e)))
+      (differ_condition rounds c (differ_left (actions_of_condition c) (actions_of s ++ actions_of t) d))
+      (joined (actions_of s) (actions_of t) rounds _ _ e (from rounds s) (from rounds t) (differ rounds s (differ_left (actions_of s) (actions_of t) e)) (differ rounds t (differ_right (actions_of s) (actions_of t) e)))
   differ rounds (Loop s t) d =
       joined (actions_of s) (actions_of t) rounds _ _ d (from rounds s) (from rounds t) (differ rounds s (differ_left (actions_of s) (actions_of t) d)) (differ rounds t (differ_right (actions_of s) (actions_of t) d))
   differ rounds (Counted counter body) d =
@@ -167,19 +165,19 @@ mutual
       let tests = each_turn (suc counter.turns) (test_spots rounds counter) in
       let turns = each_turn counter.turns (turn_spots rounds counter body) in
       let tests_from : Each (IsFrom (counter.test ∷ []) rounds) tests = each_turns (IsFrom (counter.test ∷ []) rounds) (suc counter.turns) (test_spots rounds counter)
-          (λ k l. outer (counter.test ∷ []) (round_of counter k) rounds (test_spots rounds counter k) (test_from k)) in
+      (λ k l. outer (counter.test ∷ []) (round_of counter k) rounds (test_spots rounds counter k) (test_from k)) in
       let turns_from : Each (IsFrom inside rounds) turns = each_turns (IsFrom inside rounds) counter.turns (turn_spots rounds counter body)
-          (λ k l. outer inside (round_of counter k) rounds (turn_spots rounds counter body k) (turn_from k)) in
+      (λ k l. outer inside (round_of counter k) rounds (turn_spots rounds counter body k) (turn_from k)) in
       joined (counter.start ∷ []) rest rounds (in_rounds rounds counter.start ∷ []) (tests ++ turns) d (own counter.start (counter.start ∷ []) rounds (inl refl), tt)
-          (both (counter.test ∷ []) inside rounds tests turns tests_from turns_from) (λ i. i, tt)
-          (joined (counter.test ∷ []) inside rounds tests turns d1 tests_from turns_from
-          (differ_turns counter (counter.test ∷ []) rounds (suc counter.turns) (test_spots rounds counter) test_from (λ k. (λ i. i, tt)))
-          (differ_turns counter inside rounds counter.turns (turn_spots rounds counter body) turn_from (λ k.
-          joined (counter.step ∷ []) (actions_of body) (round_of counter k ∷ rounds) (in_rounds (round_of counter k ∷ rounds) counter.step ∷ []) (spots_of (round_of counter k ∷ rounds) body) d2
-              (own counter.step (counter.step ∷ []) (round_of counter k ∷ rounds) (inl refl), tt) (from (round_of counter k ∷ rounds) body) (λ i. i, tt) (differ (round_of counter k ∷ rounds) body d3))))
+      (both (counter.test ∷ []) inside rounds tests turns tests_from turns_from) (λ i. i, tt)
+      (joined (counter.test ∷ []) inside rounds tests turns d1 tests_from turns_from
+      (differ_turns counter (counter.test ∷ []) rounds (suc counter.turns) (test_spots rounds counter) test_from (λ k. (λ i. i, tt)))
+      (differ_turns counter inside rounds counter.turns (turn_spots rounds counter body) turn_from (λ k.
+      joined (counter.step ∷ []) (actions_of body) (round_of counter k ∷ rounds) (in_rounds (round_of counter k ∷ rounds) counter.step ∷ []) (spots_of (round_of counter k ∷ rounds) body) d2
+      (own counter.step (counter.step ∷ []) (round_of counter k ∷ rounds) (inl refl), tt) (from (round_of counter k ∷ rounds) body) (λ i. i, tt) (differ (round_of counter k ∷ rounds) body d3))))
   differ rounds (Switch' action shape all) d =
       joined (action ∷ []) (actions_of_all all) rounds (in_rounds rounds action ∷ []) (spots_of_all rounds all) d (own action (action ∷ []) rounds (inl refl), tt) (from_all rounds all) (λ i. i, tt)
-          (differ_all rounds all (differ_right (action ∷ []) (actions_of_all all) d))
+      (differ_all rounds all (differ_right (action ∷ []) (actions_of_all all) d))
   differ rounds Break d = tt
   differ rounds Continue d = tt
 
@@ -187,7 +185,7 @@ mutual
   differ_all rounds end_of-Statement d = tt
   differ_all rounds (more_of-Statement s all) d =
       joined (actions_of s) (actions_of_all all) rounds _ _ d (from rounds s) (from_all rounds all) (differ rounds s (differ_left (actions_of s) (actions_of_all all) d))
-          (differ_all rounds all (differ_right (actions_of s) (actions_of_all all) d))
+      (differ_all rounds all (differ_right (actions_of s) (actions_of_all all) d))
 
   differ_condition : (rounds : List Round) (c : Condition) → all_differ (actions_of_condition c) ≡ true → Differ (spots_of_condition rounds c)
   differ_condition rounds (Test action) d = (λ i. i, tt)
@@ -196,13 +194,13 @@ mutual
   differ_condition rounds (Or' shape all) d = differ_conditions rounds all d
   differ_condition rounds (After s c) d =
       joined (actions_of s) (actions_of_condition c) rounds _ _ d (from rounds s) (from_condition rounds c) (differ rounds s (differ_left (actions_of s) (actions_of_condition c) d))
-          (differ_condition rounds c (differ_right (actions_of s) (actions_of_condition c) d))
+      (differ_condition rounds c (differ_right (actions_of s) (actions_of_condition c) d))
 
   differ_conditions : {n : _} (rounds : List Round) (all : Row_of-Condition n) → all_differ (actions_of_conditions all) ≡ true → Differ (spots_of_conditions rounds all)
   differ_conditions rounds end_of-Condition d = tt
   differ_conditions rounds (more_of-Condition c all) d =
       joined (actions_of_condition c) (actions_of_conditions all) rounds _ _ d (from_condition rounds c) (from_conditions rounds all) (differ_condition rounds c (differ_left (actions_of_condition c) (actions_of_conditions all) d))
-          (differ_conditions rounds all (differ_right (actions_of_condition c) (actions_of_conditions all) d))
+      (differ_conditions rounds all (differ_right (actions_of_condition c) (actions_of_conditions all) d))
 
 -- ---- in each body of a program
 

@@ -1,5 +1,5 @@
 -- The spots of statements and conditions, as code names their cases.
-use Rattle.std.proofs.Common.{◌≡◌, ◌∙◌, refl, sym, ap, ℕ, suc, ◌+◌, List, [], ◌∷◌, ◌++◌, append_assoc, arith}
+use Rattle.std.proofs.Common.{◌≡◌, ◌∙◌, refl, sym, ap, ℕ, suc, List, [], ◌∷◌, ◌++◌, append_assoc}
 use Rattle.c_program.specs.declared.statement.Condition.{Condition}
 use Rattle.c_program.specs.declared.statement.Condition as condition
 use Rattle.c_program.specs.declared.statement.Statement.{Statement}
