@@ -30,7 +30,7 @@ const OBJECTS: usize = 2048;
 
 /// A text with its names, and what each of them refers to.
 #[derive(Drop)]
-struct Read {
+struct Reading {
     names: IndexSet<Vec<u8>>,
     all: Vec<Seen>,
 }
@@ -61,17 +61,17 @@ pub fn declare_unit(alloc: Global, tree: &Tree) -> Result<Names, CheckStop>
     Ok(names(alloc, read)?)
 }
 
-fn read(alloc: Global, tree: &Tree) -> Result<Read, AllocError>
+fn read(alloc: Global, tree: &Tree) -> Result<Reading, AllocError>
     ensures { IfOk result (IsRead (tree_view tree.now)) }
 {
     let events = events(alloc, tree)?;
     let names = texts_of(alloc, &events)?;
     let spelled = spelled_by(alloc, &names, &events)?;
     let all = seen_of(alloc, &spelled)?;
-    Ok(Read { names, all })
+    Ok(Reading { names, all })
 }
 
-fn shared_faults(alloc: Global, read: &Read) -> Result<Vec<Fault>, AllocError>
+fn shared_faults(alloc: Global, read: &Reading) -> Result<Vec<Fault>, AllocError>
     ensures { IfOk result (λ faults. faults.items ≡ shared_faults (texts read.now.names) read.now.all.items) }
 {
     let mut faults = Vec::new(alloc);
@@ -81,7 +81,7 @@ fn shared_faults(alloc: Global, read: &Read) -> Result<Vec<Fault>, AllocError>
     Ok(faults)
 }
 
-fn program_faults(alloc: Global, read: &Read, end: Place) -> Result<Vec<Fault>, AllocError>
+fn program_faults(alloc: Global, read: &Reading, end: Place) -> Result<Vec<Fault>, AllocError>
     ensures { IfOk result (λ faults. faults.items ≡ program_faults (texts read.now.names) end read.now.all.items) }
 {
     let mut faults = shared_faults(alloc, read)?;
@@ -90,10 +90,10 @@ fn program_faults(alloc: Global, read: &Read, end: Place) -> Result<Vec<Fault>, 
     Ok(faults)
 }
 
-fn names(alloc: Global, read: Read) -> Result<Names, AllocError>
+fn names(alloc: Global, read: Reading) -> Result<Names, AllocError>
     ensures { (tree : TreeData) → IsRead tree read → IfOk result (AreNamesOf tree) }
 {
-    let Read { names, all } = read;
+    let Reading { names, all } = read;
     Ok(Names {
         spellings: names,
         declarations: declarations_of(alloc, &all)?,

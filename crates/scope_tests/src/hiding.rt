@@ -15,7 +15,7 @@ fn what_is_declared_nowhere_is_refused_where_it_is_used(rt: HostRuntime) -> Resu
     let tree = tree(externals);
     assert_eq!(rt;
         program_line(alloc, &tree)?.as_slice(),
-        b"refused U9 1:25 y\n"
+        b"refused U9 1:25 y\n".as_slice()
     );
     Ok(())
 }

@@ -9,9 +9,9 @@ fn a_text_without_a_main_is_refused_at_its_end_as_a_program_alone(
     let empty = tree(Vec::new(alloc));
     assert_eq!(rt;
         program_line(alloc, &empty)?.as_slice(),
-        b"refused U12 9999:1 main\n"
+        b"refused U12 9999:1 main\n".as_slice()
     );
-    assert_eq!(rt; unit_line(alloc, &empty)?.as_slice(), b"accepted\n");
+    assert_eq!(rt; unit_line(alloc, &empty)?.as_slice(), b"accepted\n".as_slice());
     Ok(())
 }
 
@@ -23,7 +23,7 @@ fn the_main_of_a_program_has_a_body(rt: HostRuntime) -> Result<(), Fail> {
     let tree = tree(externals);
     assert_eq!(rt;
         program_line(alloc, &tree)?.as_slice(),
-        b"refused U12 9999:1 main\n"
+        b"refused U12 9999:1 main\n".as_slice()
     );
     Ok(())
 }
