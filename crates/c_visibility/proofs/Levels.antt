@@ -19,17 +19,31 @@ use Rattle.c_visibility.proofs.Equality.{is_same}
 
 pub kept : (had : Identifier → Option Binding) (i j : Identifier) (d : Declared) → declares d.role d.is_refused (had i) ≡ false
     → (same : Bool) → (same ≡ true → i ≡ j) → had j ≡ (if same then taken d (had j) else had j)
-kept had i j d no true is =
-    subst (λ j. had j ≡ taken d (had j)) (is refl) (sym (ap (λ b. if b then Some (joined d.number d.role (had i)) else had i) no))
-kept had i j d no false is = refl
+kept had i j d fails true is =
+    subst (λ j. had j ≡ taken d (had j)) (is refl) (sym (ap (λ b. if b then Some (joined d.number d.role (had i)) else had i) fails))
+kept had i j d fails false is = refl
 
 pub put : (had : Identifier → Option Binding) (i j : Identifier) (d : Declared) → declares d.role d.is_refused (had i) ≡ true
     → (same : Bool) → (same ≡ true → i ≡ j) → cond same (Some (joined d.number d.role (had i))) (had j) ≡ (if same then taken d (had j) else had j)
-put had i j d yes true is =
-    subst (λ j. Some (joined d.number d.role (had i)) ≡ taken d (had j)) (is refl) (sym (ap (λ b. if b then Some (joined d.number d.role (had i)) else had i) yes))
-put had i j d yes false is = refl
+put had i j d holds true is =
+    subst (λ j. Some (joined d.number d.role (had i)) ≡ taken d (had j)) (is refl) (sym (ap (λ b. if b then Some (joined d.number d.role (had i)) else had i) holds))
+put had i j d holds false is = refl
 
 -- ---- lists of scopes
+
+inner_changed : (d : Declared) (same : Bool) (b c : Option Binding) (bs : List (Option Binding)) → c ≡ (if same then taken d b else b)
+    → c ∷ bs ≡ (if same then taken_inner d (b ∷ bs) else b ∷ bs)
+inner_changed d true b c bs e = ap (λ (x : Option Binding). x ∷ bs) e
+inner_changed d false b c bs e = ap (λ (x : Option Binding). x ∷ bs) e
+
+round_changed : (d : Declared) (same : Bool) (b : Option Binding) (bs cs : List (Option Binding)) → cs ≡ (if same then taken_inner d bs else bs)
+    → b ∷ cs ≡ (if same then taken_round d (b ∷ bs) else b ∷ bs)
+round_changed d true b bs cs e = ap (λ (xs : List (Option Binding)). b ∷ xs) e
+round_changed d false b bs cs e = ap (λ (xs : List (Option Binding)). b ∷ xs) e
+
+none_changed : (b : Bool) (f : List (Option Binding) → List (Option Binding)) → f [] ≡ [] → [] ≡ (if b then f [] else [])
+none_changed true f e = sym e
+none_changed false f e = refl
 
 module _ {S : Type 0} where
   pub has_last : (levels : List (IndexMap Identifier Binding S)) (level : IndexMap Identifier Binding S) (i : Identifier)
@@ -39,16 +53,6 @@ module _ {S : Type 0} where
   has_by : (all : List (IndexMap Identifier Binding S)) (levels : List (IndexMap Identifier Binding S)) (level : IndexMap Identifier Binding S) (i : Identifier)
       → all ≡ levels ++ level ∷ [] → has all i ≡ get same_identifier level i ∷ has levels i
   has_by all levels level i e = ap (λ (ls : List (IndexMap Identifier Binding S)). has ls i) e ∙ has_last levels level i
-
-  inner_changed : (d : Declared) (same : Bool) (b c : Option Binding) (bs : List (Option Binding)) → c ≡ (if same then taken d b else b)
-      → c ∷ bs ≡ (if same then taken_inner d (b ∷ bs) else b ∷ bs)
-  inner_changed d true b c bs e = ap (λ (x : Option Binding). x ∷ bs) e
-  inner_changed d false b c bs e = ap (λ (x : Option Binding). x ∷ bs) e
-
-  round_changed : (d : Declared) (same : Bool) (b : Option Binding) (bs cs : List (Option Binding)) → cs ≡ (if same then taken_inner d bs else bs)
-      → b ∷ cs ≡ (if same then taken_round d (b ∷ bs) else b ∷ bs)
-  round_changed d true b bs cs e = ap (λ (xs : List (Option Binding)). b ∷ xs) e
-  round_changed d false b bs cs e = ap (λ (xs : List (Option Binding)). b ∷ xs) e
 
   pub declared_inner : (old levels new : List (IndexMap Identifier Binding S)) (level changed : IndexMap Identifier Binding S) (d : Declared) (key i : Identifier)
       → old ≡ levels ++ level ∷ [] → new ≡ levels ++ changed ∷ []
@@ -77,10 +81,6 @@ module _ {S : Type 0} where
   found_round old levels level key was = sym (ap (λ (bs : List (Option Binding)). inner (round bs)) (has_by old levels level key was))
 
   -- where no scope is open
-  none_changed : (b : Bool) (f : List (Option Binding) → List (Option Binding)) → f [] ≡ [] → [] ≡ (if b then f [] else [])
-  none_changed true f e = sym e
-  none_changed false f e = refl
-
   pub none_open : (old new : List (IndexMap Identifier Binding S)) (f : List (Option Binding) → List (Option Binding)) (key i : Identifier)
       → f [] ≡ [] → old ≡ [] → new ≡ [] → has new i ≡ (if same_identifier key i then f (has old i) else has old i)
   none_open old new f key i e was is =
@@ -136,24 +136,24 @@ pub declared_here : (old new : Scopes) (number : ℕ) (role : Role) (facts : Fac
     → ((i : Identifier) → has new.levels.items i
     ≡ (if same_identifier (identifier_of role.space word) i then taken_inner (of number role refused) (has old.levels.items i) else has old.levels.items i))
     → Knows old before → number ≡ declarations before → refused ≡ is_refused role facts (linked word.name before) → Knows new (Declare role facts word ∷ before)
-declared_here old new number role facts word before refused no step k at is = λ i.
+declared_here old new number role facts word before refused fails step k at is = λ i.
     step i
     ∙ ap (λ (bs : List (Option Binding)). if same_identifier (identifier_of role.space word) i then taken_inner (of number role refused) bs else bs) (k i)
     ∙ ap (λ (n : ℕ). if same_identifier (identifier_of role.space word) i then taken_inner (of n role refused) (bindings i before) else bindings i before) at
     ∙ ap (λ (b : Bool). if same_identifier (identifier_of role.space word) i then taken_inner (of (declarations before) role b) (bindings i before) else bindings i before) is
     ∙ changed (here (declarations before) role facts word before) (taken_inner (here (declarations before) role facts word before))
     (with_declared (here (declarations before) role facts word before))
-    (visible i before) (same_identifier (identifier_of role.space word) i) (inner_by (here (declarations before) role facts word before) (visible i before) (is_function role) no)
+    (visible i before) (same_identifier (identifier_of role.space word) i) (inner_by (here (declarations before) role facts word before) (visible i before) (is_function role) fails)
 
 pub declared_out : (old new : Scopes) (number : ℕ) (role : Role) (facts : Facts) (word : Spot) (before : List Spelled) (refused : Bool) → is_function role ≡ true
     → ((i : Identifier) → has new.levels.items i
     ≡ (if same_identifier (identifier_of role.space word) i then taken_round (of number role refused) (has old.levels.items i) else has old.levels.items i))
     → Knows old before → number ≡ declarations before → refused ≡ is_refused role facts (linked word.name before) → Knows new (Declare role facts word ∷ before)
-declared_out old new number role facts word before refused yes step k at is = λ i.
+declared_out old new number role facts word before refused holds step k at is = λ i.
     step i
     ∙ ap (λ (bs : List (Option Binding)). if same_identifier (identifier_of role.space word) i then taken_round (of number role refused) bs else bs) (k i)
     ∙ ap (λ (n : ℕ). if same_identifier (identifier_of role.space word) i then taken_round (of n role refused) (bindings i before) else bindings i before) at
     ∙ ap (λ (b : Bool). if same_identifier (identifier_of role.space word) i then taken_round (of (declarations before) role b) (bindings i before) else bindings i before) is
     ∙ changed (here (declarations before) role facts word before) (taken_round (here (declarations before) role facts word before))
     (with_declared (here (declarations before) role facts word before))
-    (visible i before) (same_identifier (identifier_of role.space word) i) (round_by (here (declarations before) role facts word before) (visible i before) (is_function role) yes)
+    (visible i before) (same_identifier (identifier_of role.space word) i) (round_by (here (declarations before) role facts word before) (visible i before) (is_function role) holds)
