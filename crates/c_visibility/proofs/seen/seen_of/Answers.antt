@@ -12,6 +12,6 @@ loop-event-preserved c =
       known = subst (λ before. Follows c.pass.new.self before) (sym (goes_on xs i _ lt)) (c.in_ok-seen.ensures.known (reverse (take i xs)) c.loop-event.invariant.known);
       all = walked xs i _ c.loop-event.all.items c.push.new.self.items c.in_ok-seen.seen _ lt c.in_ok-push.ensures.items
           (c.in_ok-seen.ensures.seen (reverse (take i xs)) c.loop-event.invariant.known) c.loop-event.invariant.all;
-      number = omega arith;
-      opened = omega arith;
+      number = omega (arith, c.in_ok-seen.ensures.few);
+      opened = omega (arith, c.in_ok-seen.ensures.few_scopes);
     }
