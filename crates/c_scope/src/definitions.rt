@@ -28,6 +28,7 @@ fn defined(alloc: Global, all: &[Seen]) -> Result<IndexSet<usize>, AllocError>
     Ok(things)
 }
 
+#[tactic(auto, using(crate::proofs::Tables::any_put, crate::proofs::Tables::any_none))]
 fn add_defined(things: &mut IndexSet<usize>, seen: Seen) -> Result<(), AllocError>
     ensures { OnOk result ((thing : ℕ) → contains nat_eq things.new thing ≡ (contains nat_eq things.old thing || defines thing seen)) }
 {
@@ -60,6 +61,7 @@ fn called(alloc: Global, all: &[Seen]) -> Result<IndexSet<usize>, AllocError>
     Ok(things)
 }
 
+#[tactic(auto, using(crate::proofs::Tables::any_put, crate::proofs::Tables::any_none))]
 fn add_called(things: &mut IndexSet<usize>, seen: Seen) -> Result<(), AllocError>
     ensures { OnOk result ((thing : ℕ) → contains nat_eq things.new thing ≡ (contains nat_eq things.old thing || calls thing seen)) }
 {

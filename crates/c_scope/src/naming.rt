@@ -63,6 +63,7 @@ pub(crate) fn references_of(
     Ok(references)
 }
 
+#[tactic(auto, using(crate::proofs::Tables::or_else_there, crate::proofs::Tables::or_else_nowhere))]
 fn add_reference(references: &mut IndexMap<Place, usize>, seen: Seen) -> Result<(), AllocError>
     ensures { OnOk result ((place : ThePlace) → get same_place references.new place ≡ or_else (number_by place seen seen.event) (get same_place references.old place)) }
 {

@@ -11,6 +11,7 @@ use misra_base::Name;
 use std::alloc::{AllocError, Global};
 
 /// The text of the name with the number.
+#[tactic(auto, using(crate::proofs::Tables::text_in))]
 fn text_at(names: &IndexSet<Vec<u8>>, name: usize) -> &[u8]
     ensures { result.now ≡ text_at (texts names.now) name }
 {
