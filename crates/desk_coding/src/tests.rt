@@ -277,7 +277,10 @@ fn a_kept_approval_is_its_names_and_numbers(rt: HostRuntime) -> Result<(), Fail>
 fn bytes_that_are_no_row(rt: HostRuntime) -> Result<(), Fail> {
     let alloc = rt.alloc();
     assert!(rt; take_kept(alloc, &[])?.is_none());
-    assert!(rt; take_kept(alloc, &APPROVED[..34])?.is_none(), "there is no reply");
+    assert!(rt;
+        take_kept(alloc, &APPROVED[..34])?.is_none(),
+        "there is no reply"
+    );
     let mut bytes = Vec::from_slice(alloc, &APPROVED)?;
     bytes[34] = 4;
     assert!(rt;
