@@ -15,6 +15,3 @@ mod taking_rows;
 
 pub use coding::{put_change, put_kept, take_change, take_kept};
 pub use laws::{what_is_put_is_taken, what_is_taken_was_put};
-
-#[cfg(test)]
-mod tests;

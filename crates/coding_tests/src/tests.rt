@@ -1,4 +1,4 @@
-use crate::{put_change, put_kept, take_change, take_kept};
+use desk_coding::{put_change, put_kept, take_change, take_kept};
 use desk_tables::{Change, Command, KeptRow, ProjectRow, Reply, Write};
 use misra_base::{
     Category, Deviation, EntryList, Finding, FindingList, Form, Guideline, Kind, Name, NameList,
