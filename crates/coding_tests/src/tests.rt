@@ -1,3 +1,6 @@
+ghost use Rattle.std.specs.Prelude.{◌≡◌};
+ghost use Rattle.desk_tables.specs.Keepable.{is_keepable, keeps_rightly};
+
 use desk_coding::{put_change, put_kept, take_change, take_kept};
 use desk_tables::{Change, Command, KeptRow, ProjectRow, Reply, Write};
 use misra_base::{
@@ -7,10 +10,10 @@ use misra_base::{
 use std::alloc::{AllocError, Global};
 use std::test::Fail;
 
-/// ben approves the deviation 1 of `p` by his request `5`, and it is done.
-const APPROVED: [u8; 35] = [
+/// ben approves the deviation 1 of `p` by his request `5`. The byte of the reply is missing.
+const APPROVED: [u8; 34] = [
     0, 0, 0, 0, 0, 0, 0, 3, 98, 101, 110, 0, 0, 0, 0, 0, 0, 0, 1, 53, 3, 0, 0, 0, 0, 0, 0, 0, 1,
-    112, 0, 0, 0, 1, 3,
+    112, 0, 0, 0, 1,
 ];
 
 fn name(alloc: Global, text: &str) -> Result<Name, AllocError> {
@@ -172,24 +175,41 @@ fn replies(alloc: Global) -> Result<Vec<Reply>, AllocError> {
     Ok(replies)
 }
 
-/// The coding of a row whose reply is kept, and else no bytes.
-fn kept_bytes(alloc: Global, row: &KeptRow) -> Result<Vec<u8>, AllocError> {
-    match &row.reply {
-        Reply::Made(_) | Reply::Revision { .. } | Reply::Raised(_) | Reply::Done => {
-            put_kept(alloc, row)
-        }
-        _ => Ok(Vec::new(alloc)),
+/// Whether the reply is one that is kept.
+fn is_kept(reply: &Reply) -> bool
+    ensures { result ≡ is_keepable reply.now }
+{
+    match reply {
+        Reply::Made(_) | Reply::Revision { .. } | Reply::Raised(_) | Reply::Done => true,
+        Reply::Summary { .. } | Reply::Findings { .. } | Reply::Claim { .. } => false,
     }
 }
 
-/// The coding of a change without a kept row or with one whose reply is `Made`, and else no bytes.
+/// Whether the row that is kept, if one is, has such a reply.
+fn keeps_one(kept: &Option<KeptRow>) -> bool
+    ensures { result ≡ keeps_rightly kept.now }
+{
+    match kept {
+        None => true,
+        Some(row) => is_kept(&row.reply),
+    }
+}
+
+/// The coding of a row that can be kept, and else no bytes.
+fn kept_bytes(alloc: Global, row: &KeptRow) -> Result<Vec<u8>, AllocError> {
+    if is_kept(&row.reply) {
+        put_kept(alloc, row)
+    } else {
+        Ok(Vec::new(alloc))
+    }
+}
+
+/// The coding of a change whose row can be kept, and else no bytes.
 fn change_bytes(alloc: Global, change: &Change) -> Result<Vec<u8>, AllocError> {
-    match &change.kept {
-        None => put_change(alloc, change),
-        Some(row) => match &row.reply {
-            Reply::Made(_) => put_change(alloc, change),
-            _ => Ok(Vec::new(alloc)),
-        },
+    if keeps_one(&change.kept) {
+        put_change(alloc, change)
+    } else {
+        Ok(Vec::new(alloc))
     }
 }
 
@@ -249,6 +269,13 @@ fn project_made(alloc: Global) -> Result<Change, AllocError> {
     })
 }
 
+/// The bytes of the approval, with this byte as its reply.
+fn approved(alloc: Global, reply: u8) -> Result<Vec<u8>, AllocError> {
+    let mut bytes = Vec::from_slice(alloc, &APPROVED)?;
+    bytes.push(reply)?;
+    Ok(bytes)
+}
+
 fn is_the_approval(row: &KeptRow) -> bool {
     row.caller.bytes() == "ben".as_bytes()
         && row.request.bytes() == "5".as_bytes()
@@ -267,9 +294,9 @@ fn are_the_approval(alloc: Global, bytes: &[u8]) -> Result<bool, AllocError> {
 #[test]
 fn a_kept_approval_is_its_names_and_numbers(rt: HostRuntime) -> Result<(), Fail> {
     let alloc = rt.alloc();
-    let bytes = kept_bytes(alloc, &approval(alloc)?)?;
-    assert!(rt; bytes.as_slice() == APPROVED.as_slice());
-    assert!(rt; are_the_approval(alloc, &APPROVED)?);
+    let bytes = approved(alloc, 3)?;
+    assert!(rt; kept_bytes(alloc, &approval(alloc)?)? == bytes);
+    assert!(rt; are_the_approval(alloc, &bytes)?);
     Ok(())
 }
 
@@ -277,17 +304,13 @@ fn a_kept_approval_is_its_names_and_numbers(rt: HostRuntime) -> Result<(), Fail>
 fn bytes_that_are_no_row(rt: HostRuntime) -> Result<(), Fail> {
     let alloc = rt.alloc();
     assert!(rt; take_kept(alloc, &[])?.is_none());
+    assert!(rt; take_kept(alloc, &APPROVED)?.is_none(), "there is no reply");
+    let other = approved(alloc, 4)?;
     assert!(rt;
-        take_kept(alloc, &APPROVED[..34])?.is_none(),
-        "there is no reply"
-    );
-    let mut bytes = Vec::from_slice(alloc, &APPROVED)?;
-    bytes[34] = 4;
-    assert!(rt;
-        take_kept(alloc, &bytes)?.is_none(),
+        take_kept(alloc, &other)?.is_none(),
         "no reply that is kept has the number 4"
     );
-    bytes[34] = 3;
+    let mut bytes = approved(alloc, 3)?;
     assert!(rt; take_kept(alloc, &bytes)?.is_some());
     bytes.push(0)?;
     assert!(rt;
@@ -302,7 +325,8 @@ fn each_command_that_changes_the_tables_is_taken_as_it_was_put(
     rt: HostRuntime,
 ) -> Result<(), Fail> {
     let alloc = rt.alloc();
-    for command in &changing_commands(alloc)? {
+    let commands = changing_commands(alloc)?;
+    for command in &commands {
         assert!(rt; comes_back_with_each_reply(alloc, command)?);
     }
     Ok(())
@@ -311,7 +335,8 @@ fn each_command_that_changes_the_tables_is_taken_as_it_was_put(
 #[test]
 fn each_short_command_is_taken_as_it_was_put(rt: HostRuntime) -> Result<(), Fail> {
     let alloc = rt.alloc();
-    for command in &short_commands(alloc)? {
+    let commands = short_commands(alloc)?;
+    for command in &commands {
         assert!(rt; comes_back_with_each_reply(alloc, command)?);
     }
     Ok(())
