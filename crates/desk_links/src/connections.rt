@@ -26,10 +26,10 @@ impl Model for Connections {
     ghost Value = { ConnectionsView };
 
     ghost view = { λ c. record {
-        left = drop c.at c.incoming.items;
-        written = slice_index_or (lists_of c.written.items) c.accepted [];
-        before = take c.accepted (lists_of c.written.items);
-        coming = lists_of (into_iter_items c.coming);
+      left = drop c.at c.incoming.items;
+      written = slice_index_or (lists_of c.written.items) c.accepted [];
+      before = take c.accepted (lists_of c.written.items);
+      coming = lists_of (into_iter_items c.coming);
     } };
 
     ghost invariant = { λ c.

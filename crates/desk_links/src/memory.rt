@@ -36,10 +36,10 @@ impl MemoryAcceptor {
         refusing: Vec<u64>,
     ) -> Result<MemoryAcceptor, AllocError>
         ensures { IfOk result (λ a. a ≡ record {
-            connections = none_accepted (lists_of connections.items);
-            calls = record { made = 0; failing = failing.items; faults = 0 };
-            accepts = record { made = 0; failing = refusing.items; faults = 0 };
-            shortages = 0;
+          connections = none_accepted (lists_of connections.items);
+          calls = record { made = 0; failing = failing.items; faults = 0 };
+          accepts = record { made = 0; failing = refusing.items; faults = 0 };
+          shortages = 0;
         }) }
     {
         let connections = Connections::new(alloc, connections)?;

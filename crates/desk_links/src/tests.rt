@@ -57,7 +57,11 @@ fn reads_and_writes_are_numbered_together_and_accepts_by_themselves(
         let failing = Vec::from_slice(alloc, &[number])?;
         let refusing = Vec::from_slice(alloc, &[number])?;
         let mut net = MemoryAcceptor::new(alloc, two_connections(alloc)?, failing, refusing)?;
-        let accepts = [net.accept().is_ok(), net.accept().is_ok(), net.accept().is_ok()];
+        let accepts = [
+            net.accept().is_ok(),
+            net.accept().is_ok(),
+            net.accept().is_ok(),
+        ];
         assert!(rt; accepts == [number != 1, number != 2, number != 3]);
         let mut room = [0; 2];
         let calls = [

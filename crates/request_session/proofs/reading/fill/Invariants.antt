@@ -1,0 +1,12 @@
+use Rattle.std.proofs.Common.{◌≡◌, ◌-◌, length}
+use Rattle.std.specs.Io.KnownBytes.{Keeps, prepend_known}
+use Rattle.request_session.proofs.reading.fill.Given as goal
+
+abbrev pub invariant-loop-source : goal.invariant-loop-source
+invariant-loop-source g l =
+    Keeps (prepend_known l.fn.bytes.items (g.S.Source.left l.fn.source)) (prepend_known l.bytes.items (g.S.Source.left l.source))
+    × (g.S.Source.rest l.source ≡ g.S.Source.rest l.fn.source)
+    × (g.S.Source.faults l.source ≡ g.S.Source.faults l.fn.source)
+
+abbrev pub decreases-loop-source : goal.decreases-loop-source
+decreases-loop-source g l = l.need - length l.bytes.items
