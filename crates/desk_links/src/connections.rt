@@ -1,4 +1,4 @@
-ghost use Rattle.std.specs.Prelude.{◌≡◌, ℕ, [], IfOk, length, slice_index_or};
+ghost use Rattle.std.specs.Prelude.{◌≡◌, ◌<◌, ◌++◌, ℕ, [], IfOk, OnOk, OnErr, length, slice_index_or, slice_set};
 ghost use Rattle.desk_links.specs.Connections.{lists_of};
 
 use std::alloc::{AllocError, Global};
@@ -39,6 +39,7 @@ impl Model for Connections {
 }
 
 /// So many empty lists.
+#[tactic(auto, using(crate::proofs::Lists::one_more_empty))]
 fn empty_lists(alloc: Global, count: usize) -> Result<Vec<Vec<u8>>, AllocError>
     ensures length { IfOk result (λ lists. length lists.items ≡ count) }
     ensures empty { IfOk result (λ lists. (k : ℕ) → slice_index_or (lists_of lists.items) k [] ≡ []) }
@@ -48,6 +49,16 @@ fn empty_lists(alloc: Global, count: usize) -> Result<Vec<Vec<u8>>, AllocError>
         lists.push(Vec::new(alloc))?;
     }
     Ok(lists)
+}
+
+/// Adds the piece to the list at the place. Without memory nothing is added.
+fn append_at(lists: &mut Vec<Vec<u8>>, place: usize, piece: &[u8]) -> Result<(), AllocError>
+    requires { place < length lists.old.items }
+    ensures length { length lists.new.items ≡ length lists.old.items }
+    ensures ok { OnOk result (lists_of lists.new.items ≡ slice_set (lists_of lists.old.items) place (slice_index_or (lists_of lists.old.items) place [] ++ piece.now)) }
+    ensures err { OnErr result (lists_of lists.new.items ≡ lists_of lists.old.items) }
+{
+    lists[place].extend_from_slice(piece)
 }
 
 impl Connections {
@@ -103,7 +114,7 @@ impl Connections {
         ensures written { OnOk result (self.new ≡ record self.old { written = self.old.written ++ piece.now }) }
         ensures stays { OnErr result (self.new ≡ self.old) }
     {
-        self.written[self.accepted].extend_from_slice(piece)
+        append_at(&mut self.written, self.accepted, piece)
     }
 
     /// What was written on a connection.

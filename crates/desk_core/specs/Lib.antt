@@ -1,0 +1,13 @@
+pub mod Answering
+pub mod Callers
+pub mod Covering
+pub mod Entries
+pub mod Forms
+pub mod Patterns
+pub mod Planning
+pub mod Refusals
+pub mod Rows
+pub mod Same
+pub mod Step
+pub mod Stops
+pub mod View

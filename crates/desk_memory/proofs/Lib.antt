@@ -1,0 +1,4 @@
+pub mod Changed
+pub mod Filters
+pub mod Placed
+pub mod Sorted

@@ -1,0 +1,5 @@
+pub mod Calls
+pub mod First
+pub mod Places
+pub mod Stores
+pub mod Telling

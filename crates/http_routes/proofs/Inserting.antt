@@ -1,0 +1,19 @@
+-- What an insert that is accepted makes of the rows.
+use Rattle.std.proofs.Common.{◌≡◌, ℕ, List, ap, ◌∙◌, Result, Ok, Err, OnOk}
+use Rattle.matchit.specs.Rows.{RowsOf}
+use Rattle.matchit.specs.Route.{Scan}
+use Rattle.matchit.specs.Router.{RouteOf, InsertsRead}
+use Rattle.matchit.specs.declared.error.InsertError.{InsertError}
+use Rattle.http_routes.specs.declared.route.Route.{Route}
+use Rattle.http_routes.specs.Routes.{placed_read, with_route}
+
+pub inserted : (read : Result Scan InsertError) (route : Route) (old new : RowsOf (RouteOf Route)) (result : Result (Unit {0}) InsertError)
+    → InsertsRead read route old new result → OnOk result (new ≡ placed_read read route old)
+unfolding placed_read
+inserted (Ok scan) route old new (Ok done) inserts = inserts.1
+inserted (Ok scan) route old new (Err error) inserts = tt
+inserted (Err error) route old new (Ok done) inserts = inserts.0
+inserted (Err error) route old new (Err other) inserts = tt
+
+pub next : (route : Route) (old new rows : RowsOf (RouteOf Route)) → new ≡ with_route route old → old ≡ rows → new ≡ with_route route rows
+next route old new rows inserts same = inserts ∙ ap (with_route route) same
