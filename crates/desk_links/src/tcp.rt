@@ -1,7 +1,8 @@
 //! Connections over TCP, a few lines over std. They tell nothing of content.
-ghost use Rattle.std.specs.Prelude.{◌≡◌, None, refl, ℕ, List};
+ghost use Rattle.std.specs.Prelude.{◌≡◌, ◌<◌, ◌-◌, ◌^◌, true, None, refl, ℕ, List, IfOk, OnOk, IsSome};
 ghost use Rattle.std.specs.declared.option.Option.{Option};
 ghost use Rattle.desk_outside.specs.Causes.{HasCause};
+ghost use Rattle.desk_links.specs.Accepting.{Accepts};
 
 use crate::acceptor::Acceptor;
 use crate::link::Link;
@@ -97,6 +98,8 @@ impl<R: Net<Listener = TcpListener, Stream = TcpStream> + Drop> TcpAcceptor<R> {
     pub fn listen(&mut self) -> Result<(), Failed>
         ensures cause { HasCause (record {}) self.old.refused self.new.refused result }
         ensures faults { self.new.faults ≡ self.old.faults }
+        ensures listens { OnOk result (IsSome self.new.listener) }
+        ensures room { OnOk result (self.new.refused < 2 ^ 64 - 1) }
     {
         if self.refused == u64::MAX {
             return Err(Failed);
@@ -216,13 +219,24 @@ impl<R: Net<Listener = TcpListener, Stream = TcpStream> + Drop> Acceptor for Tcp
 
     ghost link_keeps_refused = { λ a b same. same };
 
-    fn accept(&mut self) -> Result<bool, Failed> {
+    fn accept(&mut self) -> Result<bool, Failed>
+        ensures connections { Accepts
+            (record { left = None; written = None; before = None; coming = None })
+            (record { left = None; written = None; before = None; coming = None })
+            result }
+        ensures cause { HasCause (record {}) self.old.refused self.new.refused result }
+        ensures faults { self.new.faults ≡ self.old.faults }
+
+        // It waits for the next connection, and never answers that none is left.
+        ensures never_false { IfOk result (λ more. more ≡ true) }
+    {
         self.listen()?;
-        let Some(listener) = &self.listener else {
-            return Ok(false);
-        };
         self.current = None;
-        match next_connection(listener) {
+        let next = match &self.listener {
+            Some(listener) => next_connection(listener),
+            None => unreachable!(),
+        };
+        match next {
             Ok(connection) => {
                 self.current = Some(connection);
                 Ok(true)
