@@ -52,6 +52,7 @@ fn empty_lists(alloc: Global, count: usize) -> Result<Vec<Vec<u8>>, AllocError>
 }
 
 /// Adds the piece to the list at the place. Without memory nothing is added.
+#[tactic(auto, using(crate::proofs::Lists::extended, crate::proofs::Lists::unextended))]
 fn append_at(lists: &mut Vec<Vec<u8>>, place: usize, piece: &[u8]) -> Result<(), AllocError>
     requires { place < length lists.old.items }
     ensures length { length lists.new.items ≡ length lists.old.items }
@@ -110,6 +111,7 @@ impl Connections {
     }
 
     /// Writes the piece on the current connection. Without memory nothing is written.
+    #[tactic(auto, using(crate::proofs::Lists::empty_after, crate::proofs::Lists::one_written, crate::proofs::Lists::none_written))]
     pub fn write(&mut self, piece: &[u8]) -> Result<(), AllocError>
         ensures written { OnOk result (self.new ≡ record self.old { written = self.old.written ++ piece.now }) }
         ensures stays { OnErr result (self.new ≡ self.old) }

@@ -1,2 +1,3 @@
 mod Inserting
+mod Numbers
 mod Segments

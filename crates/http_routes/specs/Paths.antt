@@ -1,18 +1,18 @@
 -- The segments of a path: what stands between its slashes.
-use Rattle.std.specs.Prelude.{ℕ, List, ◌==◌, ◌^◌, if◌then◌else◌, nat_lt, Option, Some, None, option_and_then}
+use Rattle.std.specs.Prelude.{ℕ, Bool, List, ◌==◌, ◌^◌, if◌then◌else◌, nat_lt, Option, Some, None, option_and_then}
 use Rattle.std.specs.List.{after_first, before_first}
 use Rattle.http_requests.specs.Fields.{decimal_number}
 
-abbrev pub slash : ℕ
-slash = 47
+abbrev pub is_slash : ℕ → Bool
+is_slash byte = byte == 47
 
 -- the bytes before the first slash
 abbrev pub up_to_slash : List ℕ → List ℕ
-up_to_slash path = before_first (λ byte. byte == slash) path
+up_to_slash path = before_first is_slash path
 
 -- the bytes behind the first slash
 abbrev pub behind_slash : List ℕ → List ℕ
-behind_slash path = after_first (λ byte. byte == slash) path
+behind_slash path = after_first is_slash path
 
 -- the second segment, as `p` of /projects/p/summary
 abbrev pub project_in : List ℕ → List ℕ

@@ -9,3 +9,6 @@ mod table;
 pub use resource::Resource;
 pub use route::Route;
 pub use table::Routes;
+
+#[cfg(test)]
+mod tests;

@@ -3,6 +3,7 @@ ghost use Rattle.std.specs.Prelude.{◌≡◌, IfOk, OnOk, Some, []};
 ghost use Rattle.std.specs.Option.{option_map, option_and_then};
 ghost use Rattle.std.specs.Str.{IsUtf8};
 ghost use Rattle.matchit.specs.Seek.{first};
+ghost use Rattle.http_routes.specs.declared.resource.Resource.TheVariants as resources;
 ghost use Rattle.http_routes.specs.Routes.{resource_at, resource_of, table_rows, with_route};
 
 use crate::path::{deviation_number, project_segment};
@@ -43,20 +44,46 @@ fn resource(alloc: Global, route: Route, path: &[u8]) -> Result<Option<Resource>
     ensures { IfOk result (λ found. found ≡ resource_at route path.now) }
 {
     let project = Name::from_bytes(alloc, project_segment(path))?;
-    Ok(match (route, deviation_number(path)) {
-        (Route::Projects, _) => Some(Resource::Projects),
-        (Route::Revisions, _) => Some(Resource::Revisions(project)),
-        (Route::Findings, _) => Some(Resource::Findings(project)),
-        (Route::Summary, _) => Some(Resource::Summary(project)),
-        (Route::Claim, _) => Some(Resource::Claim(project)),
-        (Route::Deviations, _) => Some(Resource::Deviations(project)),
-        (Route::Approve, Some(number)) => Some(Resource::Approve(project, number)),
-        (Route::Reject, Some(number)) => Some(Resource::Reject(project, number)),
-        (Route::Withdraw, Some(number)) => Some(Resource::Withdraw(project, number)),
-        (Route::Approve | Route::Reject | Route::Withdraw, None) => None,
-        (Route::Plan, _) => Some(Resource::Plan(project)),
-        (Route::Permits, _) => Some(Resource::Permits),
+    Ok(match route {
+        Route::Projects => Some(Resource::Projects),
+        Route::Revisions => Some(Resource::Revisions(project)),
+        Route::Findings => Some(Resource::Findings(project)),
+        Route::Summary => Some(Resource::Summary(project)),
+        Route::Claim => Some(Resource::Claim(project)),
+        Route::Deviations => Some(Resource::Deviations(project)),
+        Route::Approve => approval(project, deviation_number(path)),
+        Route::Reject => rejection(project, deviation_number(path)),
+        Route::Withdraw => withdrawal(project, deviation_number(path)),
+        Route::Plan => Some(Resource::Plan(project)),
+        Route::Permits => Some(Resource::Permits),
     })
+}
+
+fn approval(project: Name, deviation: Option<u32>) -> Option<Resource>
+    ensures { result ≡ option_map (resources.Approve project) deviation }
+{
+    match deviation {
+        Some(number) => Some(Resource::Approve(project, number)),
+        None => None,
+    }
+}
+
+fn rejection(project: Name, deviation: Option<u32>) -> Option<Resource>
+    ensures { result ≡ option_map (resources.Reject project) deviation }
+{
+    match deviation {
+        Some(number) => Some(Resource::Reject(project, number)),
+        None => None,
+    }
+}
+
+fn withdrawal(project: Name, deviation: Option<u32>) -> Option<Resource>
+    ensures { result ≡ option_map (resources.Withdraw project) deviation }
+{
+    match deviation {
+        Some(number) => Some(Resource::Withdraw(project, number)),
+        None => None,
+    }
 }
 
 /// The paths of the desk, in a router.
@@ -77,6 +104,7 @@ impl Routes {
 
     /// The resource that a target names: its path is one of the table, and where it has the number
     /// of a deviation this is a decimal number below 2^32.
+    #[tactic(auto, using(crate::proofs::Inserting::routed, crate::proofs::Inserting::unrouted))]
     pub fn find(&self, alloc: Global, target: &[u8]) -> Result<Option<Resource>, AllocError>
         requires { IsUtf8 target.now }
         ensures { IfOk result (λ found. found ≡ resource_of target.now) }
