@@ -2,6 +2,7 @@
 #![tactic(auto)]
 
 mod acceptor;
+mod calls;
 mod connections;
 mod link;
 mod memory;

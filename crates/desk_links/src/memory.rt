@@ -1,7 +1,8 @@
 use crate::acceptor::Acceptor;
+use crate::calls::Calls;
 use crate::connections::Connections;
 use crate::link::Link;
-use desk_outside::{Calls, Failed, Sink, Source, WriteStop};
+use desk_outside::{Failed, Sink, Source, WriteStop};
 use std::alloc::{AllocError, Global};
 use std::marker::Model;
 

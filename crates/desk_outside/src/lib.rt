@@ -10,7 +10,6 @@ mod shelf;
 mod sure;
 
 pub use adapters::{StdFiles, StdSink};
-pub use calls::Calls;
 pub use loops::{ReadStop, read_up_to, write_all};
 pub use memory::{MemoryFiles, MemorySink};
 pub use outside::{Failed, Files, OpenStop, Sink, Source, WriteStop};

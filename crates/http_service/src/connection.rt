@@ -10,7 +10,7 @@ use crate::search::HeadSearch;
 use http_requests::{FIELDS, Frame, Reading, front, read_request};
 use http_responses::{StatusCode, error_response};
 use httparse::spans::EMPTY_HEADER_SPAN;
-use session::{Answer, Service, Turn};
+use request_session::{Answer, Service, Turn};
 use std::alloc::{AllocError, Global};
 
 /// Reads the requests of a connection by HTTP, and answers them by a responder.
