@@ -84,13 +84,17 @@ fn answer_first<R: Responder>(
         Reading::Asked(frame) => {
             let Frame { head, end, closes } = frame;
             let body = &bytes[head.len..end];
-            let reply = responder.respond(alloc, front(bytes), &fields, head, body)?;
-            *search = HeadSearch::new();
-            Ok(Turn::Answered(Answer {
-                reply,
-                taken: end,
-                last: closes,
-            }))
+            match responder.respond(alloc, front(bytes), &fields, head, body) {
+                Ok(reply) => {
+                    *search = HeadSearch::new();
+                    Ok(Turn::Answered(Answer {
+                        reply,
+                        taken: end,
+                        last: closes,
+                    }))
+                }
+                Err(error) => Err(error),
+            }
         }
         Reading::Waits(need) => Ok(Turn::Waits(need)),
     }
