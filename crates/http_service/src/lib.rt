@@ -7,3 +7,6 @@ mod search;
 
 pub use connection::HttpService;
 pub use responder::Responder;
+
+#[cfg(test)]
+mod tests;

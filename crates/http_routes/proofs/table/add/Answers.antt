@@ -1,6 +1,5 @@
-use Rattle.std.proofs.Common.{◌≡◌, ap, subst}
-use Rattle.http_routes.proofs.Inserting.{inserted}
+use Rattle.http_routes.proofs.Inserting.{inserted_route}
 use Rattle.http_routes.proofs.table.add.Goals as goal
 
 pub returns : goal.returns
-returns c = inserted _ _ _ _ _ c.insert.ensures
+returns c = inserted_route _ _ _ _ _ c.template.ensures c.insert.ensures

@@ -1,0 +1,27 @@
+-- How many connections an acceptor in memory was handed, as accepts and sessions leave it.
+use Rattle.std.proofs.Common.{◌≡◌, ◌<◌, ◌+◌, ◌++◌, ◌∷◌, [], ℕ, Bool, true, false, length, Result, Ok, Err, Some, unwrap_or, ap, sym, arith}
+use Rattle.std.proofs.lemmas.Grind.{common_steps}
+use Rattle.desk_links.specs.Accepting.{Accepts, Situation}
+use Rattle.desk_links.specs.Connections.{AcceptorView, ConnectionsView, LinkRest, link_rest, situation_of}
+
+abbrev count : ConnectionsView → ℕ
+count c = length c.before + length c.coming
+
+same_count : (old new : ConnectionsView) → situation_of new ≡ situation_of old → 0 < count old → 0 < count new
+same_count old new same some =
+    let before : length new.before ≡ length old.before = ap (λ (s : Situation). length (unwrap_or s.before [])) same in
+    let coming : length new.coming ≡ length old.coming = ap (λ (s : Situation). length (unwrap_or s.coming [])) same in
+    omega (arith, before, coming, some)
+
+pub accepted : {E : Type 0} (old new : ConnectionsView) (result : Result Bool E) → Accepts (situation_of old) (situation_of new) result → 0 < count old → 0 < count new
+accepted old new (Ok true) accepts some =
+    let before : new.before ≡ old.before ++ old.written ∷ [] = ap (λ o. unwrap_or o []) accepts.1.1 in
+    grind (arith, common_steps, before)
+accepted old new (Ok false) accepts some = same_count old new accepts.0 some
+accepted old new (Err error) accepts some = same_count old new accepts some
+
+pub served : (old new : AcceptorView) → link_rest new ≡ link_rest old → 0 < count old.connections → 0 < count new.connections
+served old new same some =
+    let before : length new.connections.before ≡ length old.connections.before = ap (λ (r : LinkRest). length r.before) same in
+    let coming : length new.connections.coming ≡ length old.connections.coming = ap (λ (r : LinkRest). length r.coming) same in
+    omega (arith, before, coming, some)
