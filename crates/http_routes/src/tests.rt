@@ -10,7 +10,10 @@ const TARGETS: [(&str, Option<Route>); 18] = [
     ("/projects/a%20b/claim", Some(Route::Claim)),
     ("/projects/p/deviations", Some(Route::Deviations)),
     ("/projects/p/deviations/01/approve", Some(Route::Approve)),
-    ("/projects/p/deviations/4294967295/reject", Some(Route::Reject)),
+    (
+        "/projects/p/deviations/4294967295/reject",
+        Some(Route::Reject),
+    ),
     ("/projects/p/deviations/0/withdraw", Some(Route::Withdraw)),
     ("/projects/p/plan", Some(Route::Plan)),
     ("/permits", Some(Route::Permits)),
@@ -38,6 +41,8 @@ fn a_path_has_a_project_and_a_deviation(rt: HostRuntime) -> Result<(), Fail> {
     let routes = Routes::new(rt.alloc())?;
     let target = b"/projects/p/deviations/007/approve";
     let found = routes.find(rt.alloc(), target)?;
-    assert!(rt; matches!(&found, Some(Resource::Approve(project, 7)) if project.bytes() == b"p".as_slice()));
+    assert!(rt;
+        matches!(&found, Some(Resource::Approve(project, 7)) if project.bytes() == b"p".as_slice())
+    );
     Ok(())
 }

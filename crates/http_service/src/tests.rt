@@ -75,24 +75,60 @@ const CONNECTIONS: [(&[u8], &str); 26] = [
     (b"GET / HTTP/1.1\r\n\r\n\r\n", "200 400 "),
     (b"GET / HTTP/1.1\r\n\r\nGET / HTTP/1.1\r\n\r\n", "200 200 "),
     (b"GET / HTTP/1.0\r\n\r\nGET / HTTP/1.0\r\n\r\n", "200 200 "),
-    (b"GET / HTTP/1.1\r\nConnection: CLOSE\r\n\r\nGET / HTTP/1.1\r\n\r\n", "200 "),
-    (b"GET / HTTP/1.1\r\nConnection: keep-alive, close\r\n\r\nGET / HTTP/1.1\r\n\r\n", "200 200 "),
-    (b"GET / HTTP/1.1\r\nConnection: x\r\nConnection: close\r\n\r\nGET / HTTP/1.1\r\n\r\n", "200 200 "),
-    (b"GET / HTTP/1.1\r\nConnection: close\r\nConnection: x\r\n\r\nGET / HTTP/1.1\r\n\r\n", "200 "),
+    (
+        b"GET / HTTP/1.1\r\nConnection: CLOSE\r\n\r\nGET / HTTP/1.1\r\n\r\n",
+        "200 ",
+    ),
+    (
+        b"GET / HTTP/1.1\r\nConnection: keep-alive, close\r\n\r\nGET / HTTP/1.1\r\n\r\n",
+        "200 200 ",
+    ),
+    (
+        b"GET / HTTP/1.1\r\nConnection: x\r\nConnection: close\r\n\r\nGET / HTTP/1.1\r\n\r\n",
+        "200 200 ",
+    ),
+    (
+        b"GET / HTTP/1.1\r\nConnection: close\r\nConnection: x\r\n\r\nGET / HTTP/1.1\r\n\r\n",
+        "200 ",
+    ),
     (b"GET /\xff HTTP/1.1\r\n\r\nGET / HTTP/1.1\r\n\r\n", "400 "),
     (b"GET  / HTTP/1.1\r\n\r\n", "400 "),
-    (b"POST / HTTP/1.1\r\nContent-length: 003\r\n\r\nabcGET / HTTP/1.1\r\n\r\n", "200 200 "),
+    (
+        b"POST / HTTP/1.1\r\nContent-length: 003\r\n\r\nabcGET / HTTP/1.1\r\n\r\n",
+        "200 200 ",
+    ),
     (b"POST / HTTP/1.1\r\nContent-Length: 3\r\n\r\nab", "400 "),
     (b"POST / HTTP/1.1\r\nContent-Length: +3\r\n\r\nabc", "400 "),
     (b"POST / HTTP/1.1\r\nContent-Length:\r\n\r\nabc", "400 "),
-    (b"POST / HTTP/1.1\r\nContent-Length: 3, 3\r\n\r\nabc", "400 "),
-    (b"POST / HTTP/1.1\r\nContent-Length: 3\r\nContent-Length: 3\r\n\r\nabc", "400 "),
-    (b"POST / HTTP/1.1\r\nContent-Length: 300001\r\nContent-Length: 3\r\n\r\nabc", "400 "),
-    (b"POST / HTTP/1.1\r\nTransfer-Encoding: chunked\r\nContent-Length: 300001\r\n\r\n", "400 "),
-    (b"POST / HTTP/1.1\r\nContent-Length: 300001\r\n\r\nGET / HTTP/1.1\r\n\r\n", "413 "),
-    (b"GET / HTTP/1.1\r\nContent-Length: 99999999999999999999\r\n\r\n", "413 "),
+    (
+        b"POST / HTTP/1.1\r\nContent-Length: 3, 3\r\n\r\nabc",
+        "400 ",
+    ),
+    (
+        b"POST / HTTP/1.1\r\nContent-Length: 3\r\nContent-Length: 3\r\n\r\nabc",
+        "400 ",
+    ),
+    (
+        b"POST / HTTP/1.1\r\nContent-Length: 300001\r\nContent-Length: 3\r\n\r\nabc",
+        "400 ",
+    ),
+    (
+        b"POST / HTTP/1.1\r\nTransfer-Encoding: chunked\r\nContent-Length: 300001\r\n\r\n",
+        "400 ",
+    ),
+    (
+        b"POST / HTTP/1.1\r\nContent-Length: 300001\r\n\r\nGET / HTTP/1.1\r\n\r\n",
+        "413 ",
+    ),
+    (
+        b"GET / HTTP/1.1\r\nContent-Length: 99999999999999999999\r\n\r\n",
+        "413 ",
+    ),
     (b"POST / HTTP/1.1\r\n\r\nabc", "200 400 "),
-    (b"POST / HTTP/1.1\r\nExpect: 100-continue\r\nContent-Length: 2\r\n\r\n{}", "200 "),
+    (
+        b"POST / HTTP/1.1\r\nExpect: 100-continue\r\nContent-Length: 2\r\n\r\n{}",
+        "200 ",
+    ),
 ];
 
 #[test]
@@ -149,8 +185,12 @@ fn the_thousandth_reply_ends_the_connection(rt: HostRuntime) -> Result<(), Fail>
 
 #[test]
 fn a_reply_has_the_bytes_of_its_body(rt: HostRuntime) -> Result<(), Fail> {
-    let found = answered(rt.alloc(), b"POST / HTTP/1.1\r\nContent-Length: 5\r\n\r\nhello")?;
-    let expected = b"HTTP/1.1 200 OK\r\nContent-Type: application/json\r\nContent-Length: 5\r\n\r\nhello";
+    let found = answered(
+        rt.alloc(),
+        b"POST / HTTP/1.1\r\nContent-Length: 5\r\n\r\nhello",
+    )?;
+    let expected =
+        b"HTTP/1.1 200 OK\r\nContent-Type: application/json\r\nContent-Length: 5\r\n\r\nhello";
     assert!(rt; found.as_slice() == expected.as_slice());
     Ok(())
 }
