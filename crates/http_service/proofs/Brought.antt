@@ -1,5 +1,5 @@
 -- How many connections an acceptor in memory was handed, as accepts and sessions leave it.
-use Rattle.std.proofs.Common.{◌≡◌, ◌<◌, ◌+◌, ◌++◌, ◌∷◌, [], ℕ, Bool, true, false, length, Result, Ok, Err, Some, unwrap_or, ap, sym, arith}
+use Rattle.std.proofs.Common.{◌≡◌, ◌<◌, ◌+◌, ◌++◌, ◌∷◌, [], ℕ, Bool, true, false, length, Result, Ok, Err, unwrap_or, ap, arith}
 use Rattle.std.proofs.lemmas.Grind.{common_steps}
 use Rattle.desk_links.specs.Accepting.{Accepts, Situation}
 use Rattle.desk_links.specs.Connections.{AcceptorView, ConnectionsView, LinkRest, link_rest, situation_of}

@@ -6,7 +6,7 @@ use Rattle.httparse.specs.Grammar.{RequestHead}
 use Rattle.httparse.specs.Spans.{IsRequestAt, IsRequestWithin, header_bytes, span_bytes}
 use Rattle.httparse.specs.declared.spans.HeaderSpan.{HeaderSpan}
 use Rattle.httparse.specs.declared.spans.RequestSpans.{RequestSpans}
-use Rattle.request_session.specs.Turns.{ActsOn, Gives, IsAnswer, MayFollow, behind}
+use Rattle.request_session.specs.Turns.{Gives, IsAnswer, MayFollow, behind}
 use Rattle.request_session.specs.declared.service.Answer.{Answer}
 use Rattle.http_requests.specs.declared.framing.Frame.{Frame}
 use Rattle.http_requests.specs.Reading.{Asks, front}
