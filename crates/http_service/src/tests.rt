@@ -32,7 +32,7 @@ impl Responder for Echo {
 }
 
 /// One connection in memory that brings these bytes, and is current.
-#[tactic(auto, using(crate::proofs::Brought::accepted))]
+#[tactic(auto, using(crate::proofs::Brought::brought))]
 fn one_connection(alloc: Global, bytes: &[u8]) -> Result<MemoryAcceptor, AllocError>
     ensures { IfOk result (λ net. 0 < length net.connections.before + length net.connections.coming) }
 {
