@@ -5,9 +5,9 @@ use Rattle.c_tree.specs.declared.expression.Postfix.{Postfix}
 use Rattle.c_tree.specs.Expressions
 use Rattle.c_tree.specs.Expressions.{ExpressionData, Operations, Postfixes}
 use Rattle.c_tree.specs.Views.{operation_view, operations_of, postfix_view, postfixes_of}
-use Rattle.c_reader.specs.Grouping.{row_of, binding, IsGrouped, AreGrouped, ArePostfixes}
+use Rattle.c_reader.specs.Grouping.{row_of, binding, chained, IsGrouped, AreGrouped, ArePostfixes}
 use Rattle.c_reader.specs.SpelledExpressions.{expression, operations, postfixes}
-use Rattle.c_expressions.specs.Nodes.{chained, with_postfixes}
+use Rattle.c_expressions.specs.Nodes.{with_postfixes}
 
 pub some_chained : (first : ExpressionData) (items : List Operation) → 0 < length items
     → chained first (operations_of (map operation_view items)) ≡ Expressions.binary first (operations_of (map operation_view items))

@@ -13,11 +13,11 @@ use Rattle.c_reader.specs.States.{firsts, right_from}
 use Rattle.c_reader.proofs.Choosing.{rest_of, only_one}
 
 module _ (O : Type 0) (sign : O → ℕ) (left : Nonterminal) where
-  abbrev Fit : List O → Type 0
+  abbrev pub Fit : List O → Type 0
   Fit [] = Unit {0}
   Fit (o ∷ os) = (right_from left (sign o) ≡ sign o ∷ []) × Fit os
 
-  found_among : (os : List O) (others : List ℕ) → Fit os → (first : ℕ) → Contains (map sign os ++ others) first
+  pub found_among : (os : List O) (others : List ℕ) → Fit os → (first : ℕ) → Contains (map sign os ++ others) first
       → ((o : O) × (first ≡ sign o) × (right_from left first ≡ first ∷ [])) ⊎ Contains others first
   found_among [] others fit first c = inr c
   found_among (o ∷ os) others fit first c = go c.0 c.1 c.2
@@ -71,3 +71,14 @@ behind_first (x ∷ xs) = refl
 pub drop_two : (xs : List ℕ) → drop 1 (drop 1 xs) ≡ drop 2 xs
 drop_two [] = refl
 drop_two (x ∷ xs) = refl
+
+pub drop_three : (xs : List ℕ) → drop 1 (drop 1 (drop 1 xs)) ≡ drop 3 xs
+drop_three [] = refl
+drop_three (x ∷ []) = refl
+drop_three (x ∷ (y ∷ xs)) = refl
+
+pub behind_three : (xs : List ℕ) → drop 3 (take 4 xs) ≡ take 1 (drop 3 xs)
+behind_three [] = refl
+behind_three (x ∷ []) = refl
+behind_three (x ∷ (y ∷ [])) = refl
+behind_three (x ∷ (y ∷ (z ∷ xs))) = refl

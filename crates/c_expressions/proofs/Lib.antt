@@ -1,5 +1,6 @@
 pub mod Chains
 pub mod Chosen
+pub mod Declared
 pub mod Growing
 pub mod Levels
 pub mod Loops

@@ -9,7 +9,7 @@ use Rattle.c_lexer.specs.declared.token_class.TokenClass.TheVariants as T
 use Rattle.c_reader.specs.SpelledExpressions.{trailing}
 use Rattle.c_reader.proofs.Moving.{followed}
 use Rattle.c_expressions.specs.Nodes.{is_trailing}
-use Rattle.c_expressions.specs.Parts.{comma_pieces}
+use Rattle.c_expressions.specs.Parts.{comma_pieces, after_next}
 use Rattle.c_expressions.specs.declared.elements.After.{After}
 use Rattle.c_expressions.specs.declared.elements.After.TheVariants.{Another, TrailingComma, End}
 use Rattle.c_reader.specs.States.{State, Reads, ReadsBehind, first_right, only, opened}
@@ -45,9 +45,18 @@ comma_is Another last = absurd (last refl)
 comma_is TrailingComma last = refl
 comma_is End last = refl
 
-pub trailing_read : {b c : State} {close : List Piece} {a : State} (after : After) (elements : List Piece) → after ≢ Another
-    → Reads (any T.LeftBrace ∷ elements ++ comma_pieces after) a b → b.source ≡ a.source → Reads close b c
-    → Reads (any T.LeftBrace ∷ elements ++ trailing (is_trailing after) ++ close) a c
-trailing_read {b} {c} {close} {a} after elements last before same r =
-    subst (λ (ps : List Piece). Reads (any T.LeftBrace ∷ ps) a c)
+pub trailing_read : {b c : State} {close : List Piece} {a : State} (after : After) (open : Piece) (elements : List Piece) → after ≢ Another
+    → Reads (open ∷ elements ++ comma_pieces after) a b → b.source ≡ a.source → Reads close b c
+    → Reads (open ∷ elements ++ trailing (is_trailing after) ++ close) a c
+trailing_read {b} {c} {close} {a} after open elements last before same r =
+    subst (λ (ps : List Piece). Reads (open ∷ ps) a c)
     (append_assoc elements (comma_pieces after) close ∙ ap (λ (ps : List Piece). elements ++ ps ++ close) (comma_is after last)) (followed before same r)
+
+-- behind the last element nothing of the list comes next but its end
+pub last_next : (after : After) (element others : List ℕ) → after ≢ Another → after_next after element others ≡ others
+last_next Another element others last = absurd (last refl)
+last_next TrailingComma element others last = refl
+last_next End element others last = refl
+
+pub one_is : (left : Nonterminal) (right : List ℕ) → rights left ≡ right ∷ [] → rights left ≡ only left ∷ []
+one_is left right one = one ∙ ap (λ (r : List ℕ). r ∷ []) (sym (ap first_right one))

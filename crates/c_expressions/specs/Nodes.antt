@@ -4,11 +4,6 @@ use Rattle.c_tree.specs.Expressions
 use Rattle.c_expressions.specs.declared.elements.After.{After}
 use Rattle.c_expressions.specs.declared.elements.After.TheVariants.{Another, TrailingComma, End}
 
--- an operand, or a chain of operands where there are several
-abbrev pub chained : Expressions.ExpressionData → Expressions.Operations → Expressions.ExpressionData
-chained first Expressions.no_operations = first
-chained first (Expressions.operation p o e os) = Expressions.binary first (Expressions.operation p o e os)
-
 -- an operand, with postfixes where there are some
 abbrev pub with_postfixes : Expressions.ExpressionData → Expressions.Postfixes → Expressions.ExpressionData
 with_postfixes operand Expressions.no_postfixes = operand

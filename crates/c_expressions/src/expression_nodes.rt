@@ -1,5 +1,6 @@
 ghost use Rattle.std.specs.Prelude.{◌≡◌, map, IfOk};
-ghost use Rattle.c_expressions.specs.Nodes.{chained, with_postfixes};
+ghost use Rattle.c_expressions.specs.Nodes.{with_postfixes};
+ghost use Rattle.c_reader.specs.Grouping.{chained};
 ghost use Rattle.c_tree.specs.Expressions;
 ghost use Rattle.c_tree.specs.Views.{expression_view, expressions_of, operation_view, operations_of, postfix_view, postfixes_of, type_name_view};
 

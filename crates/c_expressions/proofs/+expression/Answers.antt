@@ -15,9 +15,12 @@ use Rattle.c_reader.specs.States.{State, Reads, only}
 use Rattle.c_reader.proofs.Moving.{followed, into, up_to}
 use Rattle.c_expressions.specs.Levels.{more, row}
 use Rattle.c_expressions.specs.Nodes.{is_trailing}
+use Rattle.c_expressions.specs.Parts.{comma_pieces, after_next}
+use Rattle.c_expressions.specs.declared.elements.After.{After}
+use Rattle.c_expressions.specs.declared.elements.After.TheVariants.{Another}
 use Rattle.c_expressions.proofs.Chains.{spelled_chained, chained_binds, chained_grouped, spelled_postfixed, postfixed_binds, postfixed_grouped}
 use Rattle.c_expressions.proofs.Chosen.{unary_found, keyword_found, behind_first, drop_two}
-use Rattle.c_expressions.proofs.Growing.{arguments_pushed, arguments_grouped, declarators_pushed, declarators_grouped, has_declarator, has_enumerator, has_specifier, some_seen, sized_push, specifiers_push, specifiers_grouped, grown, operations_pushed, operations_grouped, postfixes_push, postfixes_grouped, bounds_push, bounds_grouped, sizes_push, members_push, members_grouped}
+use Rattle.c_expressions.proofs.Growing.{arguments_pushed, arguments_grouped, declarators_pushed, declarators_grouped, enumerators_pushed, enumerators_grouped, has_declarator, has_enumerator, has_specifier, some_seen, sized_push, specifiers_push, specifiers_grouped, grown, operations_pushed, operations_grouped, postfixes_push, postfixes_grouped, bounds_push, bounds_grouped, sizes_push, members_push, members_grouped}
 use Rattle.c_expressions.proofs.Levels.{more_is, goes_on, operand_rank, falls, some_row}
 use Rattle.c_expressions.proofs.Loops.{again, behind_read, first_pushed, only_is, placeless, trailing_read}
 use Rattle.c_expressions.proofs.+expression.Goals as goal
@@ -512,7 +515,7 @@ enumeration_body-returns-clause-reads t c =
     record {
       behind = any T.LeftBrace ∷ spelled.enumerators (enumerators_of (map enumerator_view c.loop-after.enumerators.items)) ++ spelled.trailing (is_trailing c.loop-after.after) ++ at T.RightBrace c.in_ok-close.close ∷ [];
       is = ap spelled.specifier c.enum_declaration_of.ensures;
-      reads = trailing_read c.loop-after.after (spelled.enumerators (enumerators_of (map enumerator_view c.loop-after.enumerators.items))) c.loop-after-test.false c.loop-after.invariant.reads c.loop-after.invariant.same c.in_ok-close.ensures.reads;
+      reads = trailing_read c.loop-after.after (any T.LeftBrace) (spelled.enumerators (enumerators_of (map enumerator_view c.loop-after.enumerators.items))) c.loop-after-test.false c.loop-after.invariant.reads c.loop-after.invariant.same c.in_ok-close.ensures.reads;
     }
 
 pub enumeration_body-returns-clause-grouped : goal.enumeration_body-returns-clause-grouped
@@ -543,3 +546,43 @@ structure-returns-then-not-leads_to-clause-reads t c =
 pub enumeration-returns-then-not-leads_to-clause-reads : goal.enumeration-returns-then-not-leads_to-clause-reads
 enumeration-returns-then-not-leads_to-clause-reads t c =
     behind_read c.enumeration_body.result.ensures.reads (into c.leads_to.ensures.same c.in_ok-leads_to.ensures.rest c.in_ok-place.ensures.reads) (c.leads_to.ensures.same ∙ c.place.ensures.same)
+
+pub enumeration_body-loop-after-init : goal.enumeration_body-loop-after-init
+enumeration_body-loop-after-init t c =
+    let brace = c.in_ok-pass.ensures.shorter in
+    let fewer = c.in_ok-first.ensures.shorter in
+    let behind = c.in_ok-after.ensures.shorter in
+    let same_rest = ap length c.in_ok-open.ensures.rest in
+    record {
+      same = search rules;
+      next = c.in_ok-after.ensures.next
+          ∙ ap (λ (xs : List ℕ). after_next c.in_ok-after.after (only N.MoreEnumeratorsName) (drop 1 xs))
+          (c.in_ok-first.ensures.next ∙ ap (drop 2) c.in_ok-pass.ensures.next ∙ ap (λ (s : State). drop 2 (drop 1 s.pending)) c.in_ok-open.ensures.moved);
+      shorter = omega arith;
+      some = grind arith;
+      grouped = subst AreEnumerators (first_pushed enumerator_view enumerators_of c.new.result.items c.push.new.self.items c.in_ok-first.first c.new.ensures c.in_ok-push.ensures.items) c.in_ok-first.ensures.grouped;
+      reads = subst (λ (ps : List Piece). Reads (any T.LeftBrace ∷ ps ++ comma_pieces c.in_ok-after.after) c.args.reader.now c.after_enumerator.new.reader)
+          (first_pushed enumerator_view (λ (es : List OneEnumerator). spelled.enumerators (enumerators_of es)) c.new.result.items c.push.new.self.items c.in_ok-first.first c.new.ensures c.in_ok-push.ensures.items)
+          (into c.open.ensures.same c.in_ok-open.ensures.rest (followed c.in_ok-pass.ensures.reads c.pass.ensures.same (followed c.in_ok-first.ensures.reads c.enumerator.ensures.same c.in_ok-after.ensures.reads)));
+    }
+
+pub enumeration_body-loop-after-preserved : goal.enumeration_body-loop-after-preserved
+enumeration_body-loop-after-preserved t c =
+    let is_another : c.loop-after.after ≡ Another = search rules in
+    let fewer = c.in_ok-next.ensures.shorter in
+    let before = c.loop-after.invariant.shorter in
+    let behind = c.in_ok-after-in-loop-after.ensures.shorter in
+    record {
+      same = c.after_enumerator-in-loop-after.ensures.same ∙ c.enumerator-in-loop-after.ensures.same ∙ c.loop-after.invariant.same;
+      next = c.in_ok-after-in-loop-after.ensures.next
+          ∙ ap (λ (xs : List ℕ). after_next c.in_ok-after-in-loop-after.after (only N.MoreEnumeratorsName) (drop 1 xs))
+          (c.in_ok-next.ensures.next ∙ ap (drop 2) (c.loop-after.invariant.next ∙ ap (λ (a : After). after_next a (only N.MoreEnumeratorsName) (class_number T.RightBrace ∷ drop 1 c.args.reader.now.pending)) is_another));
+      shorter = omega arith;
+      some = grind arith;
+      grouped = subst AreEnumerators (grown enumerator_view enumerators_of c.loop-after.enumerators.items c.push-in-loop-after.new.self.items c.in_ok-next.next c.in_ok-push-in-loop-after.ensures.items)
+          (enumerators_grouped (map enumerator_view c.loop-after.enumerators.items) (enumerator_view c.in_ok-next.next) c.loop-after.invariant.grouped c.in_ok-next.ensures.grouped);
+      reads = subst (λ (ps : List Piece). Reads (any T.LeftBrace ∷ ps) c.args.reader.now c.after_enumerator-in-loop-after.new.reader)
+          (enumerators_pushed c.loop-after.enumerators.items c.push-in-loop-after.new.self.items c.in_ok-next.next (comma_pieces c.in_ok-after-in-loop-after.after) c.loop-after.invariant.some c.in_ok-push-in-loop-after.ensures.items)
+          (followed (subst (λ (a : After). Reads (any T.LeftBrace ∷ spelled.enumerators (enumerators_of (map enumerator_view c.loop-after.enumerators.items)) ++ comma_pieces a) c.args.reader.now c.loop-after.reader) is_another c.loop-after.invariant.reads)
+          c.loop-after.invariant.same (followed c.in_ok-next.ensures.reads c.enumerator-in-loop-after.ensures.same c.in_ok-after-in-loop-after.ensures.reads));
+    }
