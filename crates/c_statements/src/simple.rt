@@ -5,6 +5,7 @@ ghost use Rattle.c_lexer.specs.TokenClasses.{class_number};
 ghost use Rattle.c_lexer.specs.declared.token_class.TokenClass.TheVariants as T;
 ghost use Rattle.c_reader.specs.GroupedStatements.{IsGroupedSimple, IsGroupedStep};
 ghost use Rattle.c_reader.specs.Grouping.{IsGrouped};
+ghost use Rattle.c_reader.specs.Signs.{assignment_sign, step_sign};
 ghost use Rattle.c_reader.specs.SpelledExpressions as spelled_expression;
 ghost use Rattle.c_reader.specs.SpelledStatements as spelled;
 ghost use Rattle.c_reader.specs.States.{Expects, Reads, ReadsBehind, Stops};
@@ -19,7 +20,7 @@ use c_expressions::{conditional, unary};
 use c_lexer::TokenClass;
 use c_reader::{Reader, assignment_class, assignment_operator, step_class};
 use c_tables::Nonterminal;
-use c_tree::{Expression, Simple, Step};
+use c_tree::{AssignmentOperator, Expression, Simple, Step};
 use ll_core::{END_OF_TEXT, ParseStop};
 
 const INCREMENT: u16 = TokenClass::Increment as u16;
@@ -72,14 +73,25 @@ fn prefix(reader: &mut Reader<'_>) -> Result<Simple, ParseStop>
     ensures grouped { IfOk result (λ s. IsGroupedSimple (simple_view s)) }
     ensures stop { IfErr result (Stops reader.old.source) }
 {
-    let step = if reader.starts_with(Nonterminal::SimpleStep, TokenClass::Increment)? {
-        Step::Increment
-    } else {
-        Step::Decrement
-    };
+    let step = step(reader)?;
     let place = reader.place(step_class(step))?;
     let operand = unary(reader)?;
     Ok(prefix_of(reader.alloc(), place, step, operand)?)
+}
+
+/// `"++" | "--"`, up to the token.
+fn step(reader: &mut Reader<'_>) -> Result<Step, ParseStop>
+    requires { Expects (left_side N.SimpleStep ∷ []) reader.old }
+    ensures same { reader.new.source ≡ reader.old.source }
+    ensures rest { OnOk result (reader.new.rest ≡ reader.old.rest) }
+    ensures next { IfOk result (λ s. reader.new.pending ≡ class_number (step_sign s) ∷ drop 1 reader.old.pending) }
+    ensures stop { IfErr result (Stops reader.old.source) }
+{
+    if reader.starts_with(Nonterminal::SimpleStep, TokenClass::Increment)? {
+        Ok(Step::Increment)
+    } else {
+        Ok(Step::Decrement)
+    }
 }
 
 /// `[ assign cond | "++" | "--" ]` behind an expression.
@@ -119,9 +131,20 @@ fn assignment(reader: &mut Reader<'_>, target: Expression) -> Result<Simple, Par
     ensures grouped { IfOk result (λ s. IsGroupedSimple (simple_view s)) }
     ensures stop { IfErr result (Stops reader.old.source) }
 {
-    let first = reader.choose(Nonterminal::Assignment)?;
-    let operator = assignment_operator(first);
+    let operator = operator(reader)?;
     let place = reader.place(assignment_class(operator))?;
     let value = conditional(reader)?;
     Ok(assignment_of(reader.alloc(), target, place, operator, value)?)
+}
+
+/// `assign`, up to its token.
+fn operator(reader: &mut Reader<'_>) -> Result<AssignmentOperator, ParseStop>
+    requires { Expects (left_side N.Assignment ∷ []) reader.old }
+    ensures same { reader.new.source ≡ reader.old.source }
+    ensures rest { OnOk result (reader.new.rest ≡ reader.old.rest) }
+    ensures next { IfOk result (λ o. reader.new.pending ≡ class_number (assignment_sign o) ∷ drop 1 reader.old.pending) }
+    ensures stop { IfErr result (Stops reader.old.source) }
+{
+    let first = reader.choose(Nonterminal::Assignment)?;
+    Ok(assignment_operator(first))
 }

@@ -1,0 +1,229 @@
+use Rattle.std.proofs.Common.{◌≡◌, ◌∙◌, ◌<◌, ◌≤◌, ◌+◌, ◌*◌, ℕ, List, [], ◌∷◌, ◌++◌, map, drop, length, sym, ap, subst, arith, append-nil}
+use Rattle.c_lexer.specs.TokenClasses.{class_number}
+use Rattle.c_lexer.specs.declared.token_class.TokenClass.TheVariants as T
+use Rattle.c_tree.specs.Statements
+use Rattle.c_tree.specs.StatementViews.{OneClause, body_view, clause_view, clauses_of, item_view, items_of, statement_view, statements_of}
+use Rattle.c_tables.specs.Grammar.{left_side}
+use Rattle.c_tables.specs.declared.nonterminal.Nonterminal.TheVariants as N
+use Rattle.c_reader.specs.GroupedStatements.{AreGroupedClauses, AreGroupedItems, AreGroupedStatements, IsGroupedBlock, IsGroupedBody, IsGroupedIf, IsGroupedItem, IsGroupedOtherwise, IsGroupedStatement}
+use Rattle.c_reader.specs.Pieces.{Piece, at}
+use Rattle.c_reader.specs.SpelledStatements as spelled
+use Rattle.c_reader.specs.States.{Reads}
+use Rattle.c_reader.proofs.Moving.{followed, into, up_to}
+use Rattle.c_expressions.proofs.Growing.{grown}
+use Rattle.c_expressions.proofs.Loops.{again}
+use Rattle.c_statements.proofs.Growing.{clauses_grouped, clauses_push, items_grouped, items_push, statements_grouped, statements_push}
+use Rattle.c_statements.proofs.Joining.{bracketed}
+use Rattle.c_statements.proofs.+statement.Goals as goal
+
+-- ---- blocks
+
+pub block-loop-items-preserved : goal.block-loop-items-preserved
+block-loop-items-preserved t c =
+    let fewer = c.in_ok-next.ensures.shorter in
+    let same_rest = ap length c.in_ok-option.ensures.rest in
+    let before = c.loop-items.invariant.shorter in
+    record {
+      same = c.item.ensures.same ∙ c.option.ensures.same ∙ c.loop-items.invariant.same;
+      next = again N.BlockItems 1 c.loop-items.reader c.option.new.self c.item.new.reader c.in_ok-option.field-0 (class_number T.RightBrace ∷ drop 1 c.args.reader.now.pending) c.if-branch.true
+          c.in_ok-option.ensures.moved c.in_ok-next.ensures.next c.loop-items.invariant.next;
+      shorter = omega arith;
+      grouped = subst AreGroupedItems (grown item_view items_of c.loop-items.items.items c.push.new.self.items c.in_ok-next.next c.in_ok-push.ensures.items)
+          (items_grouped (map item_view c.loop-items.items.items) (item_view c.in_ok-next.next) c.loop-items.invariant.grouped c.in_ok-next.ensures.grouped);
+      reads = subst (λ (ps : List Piece). Reads (at T.LeftBrace c.in_ok-place.place ∷ ps) c.args.reader.now c.item.new.reader)
+          (items_push (map item_view c.loop-items.items.items) (item_view c.in_ok-next.next)
+          ∙ grown item_view (λ (is : List Statements.ItemData). spelled.items (items_of is)) c.loop-items.items.items c.push.new.self.items c.in_ok-next.next c.in_ok-push.ensures.items)
+          (followed (up_to c.loop-items.invariant.reads c.in_ok-option.ensures.rest) (c.option.ensures.same ∙ c.loop-items.invariant.same) c.in_ok-next.ensures.reads);
+    }
+
+pub block-returns-clause-reads : goal.block-returns-clause-reads
+block-returns-clause-reads t c =
+    subst (λ (d : Statements.BlockData). Reads (spelled.block d) c.args.reader.now c.place-2.new.self) (sym c.block_of.ensures)
+    (followed (up_to c.loop-items.invariant.reads c.in_ok-option.ensures.rest) (c.option.ensures.same ∙ c.loop-items.invariant.same) c.in_ok-close.ensures.reads)
+
+pub block-returns-clause-grouped : goal.block-returns-clause-grouped
+block-returns-clause-grouped t c = subst IsGroupedBlock (sym c.block_of.ensures) c.loop-items.invariant.grouped
+
+pub item-returns-in-SPECIFIERS-clause-reads : goal.item-returns-in-SPECIFIERS-clause-reads
+item-returns-in-SPECIFIERS-clause-reads t c =
+    subst (λ (d : Statements.ItemData). Reads (spelled.item d) c.args.reader.now c.declaration.new.reader) (sym c.declaration_item_of.ensures)
+    (into c.choose.ensures.same c.in_ok-choose.ensures.rest c.in_ok-declaration.ensures.reads)
+
+pub item-returns-in-STATEMENT-clause-reads : goal.item-returns-in-STATEMENT-clause-reads
+item-returns-in-STATEMENT-clause-reads t c =
+    subst (λ (d : Statements.ItemData). Reads (spelled.item d) c.args.reader.now c.statement.new.reader) (sym c.statement_item_of.ensures)
+    (into c.choose.ensures.same c.in_ok-choose.ensures.rest c.in_ok-statement.ensures.reads)
+
+pub item-returns-in-LEAVE-clause-reads : goal.item-returns-in-LEAVE-clause-reads
+item-returns-in-LEAVE-clause-reads t c =
+    subst (λ (d : Statements.ItemData). Reads (spelled.item d) c.args.reader.now c.leave.new.reader) (sym c.leave_item_of.ensures)
+    (into c.choose.ensures.same c.in_ok-choose.ensures.rest c.in_ok-leave.ensures.reads)
+
+pub item-returns-in-SPECIFIERS-clause-grouped : goal.item-returns-in-SPECIFIERS-clause-grouped
+item-returns-in-SPECIFIERS-clause-grouped t c = subst IsGroupedItem (sym c.declaration_item_of.ensures) c.in_ok-declaration.ensures.grouped
+
+pub item-returns-in-STATEMENT-clause-grouped : goal.item-returns-in-STATEMENT-clause-grouped
+item-returns-in-STATEMENT-clause-grouped t c = subst IsGroupedItem (sym c.statement_item_of.ensures) c.in_ok-statement.ensures.grouped
+
+pub item-returns-in-LEAVE-clause-grouped : goal.item-returns-in-LEAVE-clause-grouped
+item-returns-in-LEAVE-clause-grouped t c = subst IsGroupedItem (sym c.leave_item_of.ensures) c.in_ok-leave.ensures.grouped
+
+-- ---- statements
+
+pub statement-returns-in-BLOCK-clause-reads : goal.statement-returns-in-BLOCK-clause-reads
+statement-returns-in-BLOCK-clause-reads t c =
+    subst (λ (d : Statements.StatementData). Reads (spelled.statement d) c.args.reader.now c.block.new.reader) (sym c.block_statement_of.ensures)
+    (into c.choose.ensures.same c.in_ok-choose.ensures.rest c.in_ok-block.ensures.reads)
+
+pub statement-returns-in-BLOCK-clause-grouped : goal.statement-returns-in-BLOCK-clause-grouped
+statement-returns-in-BLOCK-clause-grouped t c = subst IsGroupedStatement (sym c.block_statement_of.ensures) c.in_ok-block.ensures.grouped
+
+pub statement-returns-in-IF-clause-reads : goal.statement-returns-in-IF-clause-reads
+statement-returns-in-IF-clause-reads t c =
+    subst (λ (d : Statements.StatementData). Reads (spelled.statement d) c.args.reader.now c.if_statement.new.reader) (sym c.if_statement_of.ensures)
+    (into c.choose.ensures.same c.in_ok-choose.ensures.rest c.in_ok-if_statement.ensures.reads)
+
+pub statement-returns-in-IF-clause-grouped : goal.statement-returns-in-IF-clause-grouped
+statement-returns-in-IF-clause-grouped t c = subst IsGroupedStatement (sym c.if_statement_of.ensures) c.in_ok-if_statement.ensures.grouped
+
+pub while_statement-returns-clause-reads : goal.while_statement-returns-clause-reads
+while_statement-returns-clause-reads t c =
+    subst (λ (d : Statements.StatementData). Reads (spelled.statement d) c.args.reader.now c.block.new.reader) (sym c.in_ok-while_of.ensures)
+    (followed c.in_ok-place.ensures.reads c.place.ensures.same (bracketed c.in_ok-condition.ensures.reads c.condition.ensures.same c.in_ok-body.ensures.reads))
+
+pub while_statement-returns-clause-grouped : goal.while_statement-returns-clause-grouped
+while_statement-returns-clause-grouped t c =
+    subst IsGroupedStatement (sym c.in_ok-while_of.ensures) (c.in_ok-condition.ensures.grouped, c.in_ok-body.ensures.grouped)
+
+pub do_statement-returns-clause-reads : goal.do_statement-returns-clause-reads
+do_statement-returns-clause-reads t c =
+    subst (λ (d : Statements.StatementData). Reads (spelled.statement d) c.args.reader.now c.pass.new.self) (sym c.in_ok-do_while_of.ensures)
+    (followed c.in_ok-place.ensures.reads c.place.ensures.same
+    (followed c.in_ok-body.ensures.reads c.block.ensures.same
+    (followed c.in_ok-while_place.ensures.reads c.place-2.ensures.same (bracketed c.in_ok-condition.ensures.reads c.condition.ensures.same c.in_ok-pass.ensures.reads))))
+
+pub do_statement-returns-clause-grouped : goal.do_statement-returns-clause-grouped
+do_statement-returns-clause-grouped t c =
+    subst IsGroupedStatement (sym c.in_ok-do_while_of.ensures) (c.in_ok-body.ensures.grouped, c.in_ok-condition.ensures.grouped)
+
+pub for_statement-returns-clause-reads : goal.for_statement-returns-clause-reads
+for_statement-returns-clause-reads t c =
+    subst (λ (d : Statements.StatementData). Reads (spelled.statement d) c.args.reader.now c.block.new.reader) (sym c.in_ok-for_of.ensures)
+    (followed c.in_ok-place.ensures.reads c.place.ensures.same
+    (followed c.in_ok-pass.ensures.reads c.pass.ensures.same
+    (followed c.in_ok-start.ensures.reads c.optional_start.ensures.same
+    (followed c.in_ok-pass-2.ensures.reads c.pass-2.ensures.same
+    (followed c.in_ok-condition.ensures.reads c.optional_value.ensures.same
+    (followed c.in_ok-pass-3.ensures.reads c.pass-3.ensures.same
+    (followed c.in_ok-step.ensures.reads c.optional_simple.ensures.same (followed c.in_ok-pass-4.ensures.reads c.pass-4.ensures.same c.in_ok-body.ensures.reads))))))))
+
+pub for_statement-returns-clause-grouped : goal.for_statement-returns-clause-grouped
+for_statement-returns-clause-grouped t c =
+    subst IsGroupedStatement (sym c.in_ok-for_of.ensures) (c.in_ok-start.ensures.grouped, c.in_ok-condition.ensures.grouped, c.in_ok-step.ensures.grouped, c.in_ok-body.ensures.grouped)
+
+-- ---- `switch`
+
+pub switch_statement-returns-clause-reads : goal.switch_statement-returns-clause-reads
+switch_statement-returns-clause-reads t c =
+    subst (λ (d : Statements.StatementData). Reads (spelled.statement d) c.args.reader.now c.place-2.new.self) (sym c.in_ok-switch_of.ensures)
+    (followed c.in_ok-place.ensures.reads c.place.ensures.same
+    (bracketed c.in_ok-subject.ensures.reads c.condition.ensures.same
+    (followed c.in_ok-pass.ensures.reads c.pass.ensures.same
+    (followed c.in_ok-clauses.ensures.reads c.clauses.ensures.same (followed c.in_ok-default.ensures.reads c.default.ensures.same c.in_ok-close.ensures.reads)))))
+
+pub switch_statement-returns-clause-grouped : goal.switch_statement-returns-clause-grouped
+switch_statement-returns-clause-grouped t c =
+    subst IsGroupedStatement (sym c.in_ok-switch_of.ensures) (c.in_ok-subject.ensures.grouped, c.in_ok-clauses.ensures.grouped, c.in_ok-default.ensures.grouped)
+
+pub clauses-loop-clauses-preserved : goal.clauses-loop-clauses-preserved
+clauses-loop-clauses-preserved t c =
+    let fewer = c.in_ok-next.ensures.shorter in
+    let same_rest = ap length c.in_ok-option.ensures.rest in
+    let before = c.loop-clauses.invariant.shorter in
+    record {
+      same = c.clause.ensures.same ∙ c.option.ensures.same ∙ c.loop-clauses.invariant.same;
+      next = again N.StatementClauses 1 c.loop-clauses.reader c.option.new.self c.clause.new.reader c.in_ok-option.field-0 (drop 1 c.args.reader.now.pending) c.if-branch.true
+          c.in_ok-option.ensures.moved c.in_ok-next.ensures.next c.loop-clauses.invariant.next;
+      shorter = omega arith;
+      grouped = subst AreGroupedClauses (grown clause_view clauses_of c.loop-clauses.clauses.items c.push.new.self.items c.in_ok-next.next c.in_ok-push.ensures.items)
+          (clauses_grouped (map clause_view c.loop-clauses.clauses.items) (clause_view c.in_ok-next.next) c.loop-clauses.invariant.grouped c.in_ok-next.ensures.grouped);
+      reads = subst (λ (ps : List Piece). Reads ps c.args.reader.now c.clause.new.reader)
+          (clauses_push (map clause_view c.loop-clauses.clauses.items) (clause_view c.in_ok-next.next)
+          ∙ grown clause_view (λ (cs : List OneClause). spelled.clauses (clauses_of cs)) c.loop-clauses.clauses.items c.push.new.self.items c.in_ok-next.next c.in_ok-push.ensures.items)
+          (followed (up_to c.loop-clauses.invariant.reads c.in_ok-option.ensures.rest) (c.option.ensures.same ∙ c.loop-clauses.invariant.same) c.in_ok-next.ensures.reads);
+    }
+
+pub clause-returns-clause-reads : goal.clause-returns-clause-reads
+clause-returns-clause-reads t c =
+    subst (λ (d : OneClause). Reads (spelled.clauses (clauses_of (d ∷ []))) c.args.reader.now c.body.new.reader) (sym c.clause_of.ensures)
+    (into c.open.ensures.same c.in_ok-open.ensures.rest
+    (followed c.in_ok-labels.ensures.reads c.labels.ensures.same
+    (subst (λ (ps : List Piece). Reads ps c.labels.new.reader c.body.new.reader) (sym (append-nil (spelled.body (body_view c.in_ok-body.body)))) c.in_ok-body.ensures.reads)))
+
+pub clause-returns-clause-grouped : goal.clause-returns-clause-grouped
+clause-returns-clause-grouped t c =
+    subst (λ (d : OneClause). AreGroupedClauses (clauses_of (d ∷ []))) (sym c.clause_of.ensures) (c.in_ok-labels.ensures.some, c.in_ok-labels.ensures.grouped, c.in_ok-body.ensures.grouped, tt)
+
+pub default-returns-clause-reads : goal.default-returns-clause-reads
+default-returns-clause-reads t c =
+    into c.option.ensures.same c.in_ok-option.ensures.rest
+    (followed c.in_ok-pass.ensures.reads c.pass.ensures.same (followed c.in_ok-pass-2.ensures.reads c.pass-2.ensures.same c.in_ok-body.ensures.reads))
+
+pub body-loop-statements-preserved : goal.body-loop-statements-preserved
+body-loop-statements-preserved t c =
+    let fewer = c.in_ok-next.ensures.shorter in
+    let same_rest = ap length c.in_ok-option.ensures.rest in
+    let before = c.loop-statements.invariant.shorter in
+    record {
+      same = c.statement.ensures.same ∙ c.option.ensures.same ∙ c.loop-statements.invariant.same;
+      next = again N.BodyStatements 1 c.loop-statements.reader c.option.new.self c.statement.new.reader c.in_ok-option.field-0 (left_side N.Leave ∷ drop 1 c.args.reader.now.pending) c.if-branch.true
+          c.in_ok-option.ensures.moved c.in_ok-next.ensures.next c.loop-statements.invariant.next;
+      shorter = omega arith;
+      grouped = subst AreGroupedStatements (grown statement_view statements_of c.loop-statements.statements.items c.push.new.self.items c.in_ok-next.next c.in_ok-push.ensures.items)
+          (statements_grouped (map statement_view c.loop-statements.statements.items) (statement_view c.in_ok-next.next) c.loop-statements.invariant.grouped c.in_ok-next.ensures.grouped);
+      reads = subst (λ (ps : List Piece). Reads ps c.args.reader.now c.statement.new.reader)
+          (statements_push (map statement_view c.loop-statements.statements.items) (statement_view c.in_ok-next.next)
+          ∙ grown statement_view (λ (ss : List Statements.StatementData). spelled.statements (statements_of ss)) c.loop-statements.statements.items c.push.new.self.items c.in_ok-next.next c.in_ok-push.ensures.items)
+          (followed (up_to c.loop-statements.invariant.reads c.in_ok-option.ensures.rest) (c.option.ensures.same ∙ c.loop-statements.invariant.same) c.in_ok-next.ensures.reads);
+    }
+
+pub body-returns-clause-reads : goal.body-returns-clause-reads
+body-returns-clause-reads t c =
+    subst (λ (d : Statements.BodyData). Reads (spelled.body d) c.args.reader.now c.leave.new.reader) (sym c.body_of.ensures)
+    (followed (up_to c.loop-statements.invariant.reads c.in_ok-option.ensures.rest) (c.option.ensures.same ∙ c.loop-statements.invariant.same) c.in_ok-leave.ensures.reads)
+
+pub body-returns-clause-grouped : goal.body-returns-clause-grouped
+body-returns-clause-grouped t c = subst IsGroupedBody (sym c.body_of.ensures) (c.loop-statements.invariant.grouped, c.in_ok-leave.ensures.grouped)
+
+-- ---- `if`
+
+pub if_statement-returns-clause-reads : goal.if_statement-returns-clause-reads
+if_statement-returns-clause-reads t c =
+    subst (λ (d : Statements.IfData). Reads (spelled.if_statement d) c.args.reader.now c.otherwise.new.reader) (sym c.in_ok-if_of.ensures)
+    (into c.open.ensures.same c.in_ok-open.ensures.rest
+    (followed c.in_ok-place.ensures.reads c.place.ensures.same
+    (bracketed c.in_ok-condition.ensures.reads c.condition.ensures.same (followed c.in_ok-then.ensures.reads c.block.ensures.same c.in_ok-otherwise.ensures.reads))))
+
+pub if_statement-returns-clause-grouped : goal.if_statement-returns-clause-grouped
+if_statement-returns-clause-grouped t c =
+    subst IsGroupedIf (sym c.in_ok-if_of.ensures) (c.in_ok-condition.ensures.grouped, c.in_ok-then.ensures.grouped, c.in_ok-otherwise.ensures.grouped)
+
+pub otherwise-returns-clause-reads : goal.otherwise-returns-clause-reads
+otherwise-returns-clause-reads t c =
+    into c.option.ensures.same c.in_ok-option.ensures.rest (followed c.in_ok-pass.ensures.reads c.pass.ensures.same c.in_ok-branch.ensures.reads)
+
+pub branch-returns-then-leads_to-clause-reads : goal.branch-returns-then-leads_to-clause-reads
+branch-returns-then-leads_to-clause-reads t c =
+    subst (λ (d : Statements.OtherwiseData). Reads (spelled.otherwise d) c.args.reader.now c.block.new.reader) (sym c.otherwise_block_of.ensures)
+    (into c.leads_to.ensures.same c.in_ok-leads_to.ensures.rest c.in_ok-block.ensures.reads)
+
+pub branch-returns-then-leads_to-clause-grouped : goal.branch-returns-then-leads_to-clause-grouped
+branch-returns-then-leads_to-clause-grouped t c = subst IsGroupedOtherwise (sym c.otherwise_block_of.ensures) c.in_ok-block.ensures.grouped
+
+pub branch-returns-clause-reads : goal.branch-returns-clause-reads
+branch-returns-clause-reads t c =
+    subst (λ (d : Statements.OtherwiseData). Reads (spelled.otherwise d) c.args.reader.now c.if_statement.new.reader) (sym c.in_ok-otherwise_if_of.ensures)
+    (into c.leads_to.ensures.same c.in_ok-leads_to.ensures.rest c.in_ok-other.ensures.reads)
+
+pub branch-returns-clause-grouped : goal.branch-returns-clause-grouped
+branch-returns-clause-grouped t c = subst IsGroupedOtherwise (sym c.in_ok-otherwise_if_of.ensures) c.in_ok-other.ensures.grouped
