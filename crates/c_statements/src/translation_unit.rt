@@ -1,9 +1,9 @@
 #![tactic(auto, using(c_reader::proofs::Standing::memory_stops))]
 
-ghost use Rattle.std.specs.Prelude.{◌≡◌, ◌≤◌, ◌<◌, All, map, length, IfOk, IfErr};
+ghost use Rattle.std.specs.Prelude.{◌≡◌, ◌≤◌, ◌<◌, All, map, length, OnOk, IfOk, IfErr};
 ghost use Rattle.c_lexer.specs.Slices.{IsWithin};
 ghost use Rattle.c_reader.specs.SpelledExternals.{IsTree};
-ghost use Rattle.c_reader.specs.States.{Stops};
+ghost use Rattle.c_reader.specs.States.{HasOneDerivation, Stops};
 ghost use Rattle.c_tree.specs.StatementViews.{tree_view};
 
 use crate::externals::unit;
@@ -20,6 +20,7 @@ pub fn tree(alloc: Global, text: &[u8], tokens: &[Token]) -> Result<Tree, ParseS
     requires within { All (IsWithin (length text.now)) tokens.now }
     requires classes { All (λ token. token.class < 80) tokens.now }
     ensures tree { IfOk result (λ t. IsTree text.now tokens.now (tree_view t)) }
+    ensures derived { OnOk result (HasOneDerivation (record { text = text.now; tokens = tokens.now })) }
     ensures stop { IfErr result (Stops (record { text = text.now; tokens = tokens.now })) }
 {
     let grammar = match c_grammar(alloc) {
