@@ -1,5 +1,5 @@
 -- Lists of statements, labels, parameters and externals that grow at their end, and the pieces that they are read from.
-use Rattle.std.proofs.Common.{◌≡◌, ◌∙◌, ◌<◌, ℕ, List, [], ◌∷◌, ◌++◌, map, length, sym, ap, append_assoc, append-nil, arith}
+use Rattle.std.proofs.Common.{◌≡◌, ◌∙◌, ◌<◌, ℕ, List, [], ◌∷◌, ◌++◌, map, length, refl, sym, ap, append_assoc, append-nil, arith}
 use Rattle.std.proofs.lemmas.List.{length-map}
 use Rattle.c_lexer.specs.declared.token_class.TokenClass.TheVariants as T
 use Rattle.c_tree.specs.declared.declaration.Parameter.{Parameter}
@@ -23,7 +23,8 @@ statements_push (x ∷ ss) s = append_assoc (statement x) (statements (statement
 pub clauses_push : (cs : List OneClause) (c : OneClause) → clauses (clauses_of cs) ++ clauses (clauses_of (c ∷ [])) ≡ clauses (clauses_of (cs ++ c ∷ []))
 clauses_push [] c = refl
 clauses_push (x ∷ cs) c =
-    append_assoc (labels x.labels ++ body x.body) (clauses (clauses_of cs)) (clauses (clauses_of (c ∷ []))) ∙ ap (λ ps. labels x.labels ++ body x.body ++ ps) (clauses_push cs c)
+    append_assoc (labels x.labels) (body x.body ++ clauses (clauses_of cs)) (clauses (clauses_of (c ∷ [])))
+    ∙ ap (λ ps. labels x.labels ++ ps) (append_assoc (body x.body) (clauses (clauses_of cs)) (clauses (clauses_of (c ∷ []))) ∙ ap (λ ps. body x.body ++ ps) (clauses_push cs c))
 
 pub labels_push : (ls : List CaseLabelData) (l : CaseLabelData) → labels ls ++ labels (l ∷ []) ≡ labels (ls ++ l ∷ [])
 labels_push [] l = refl
