@@ -8,7 +8,7 @@ use Rattle.c_reader.specs.Pieces.{at}
 use Rattle.c_reader.specs.SpelledStatements as spelled
 use Rattle.c_reader.specs.States.{Reads, only}
 use Rattle.c_expressions.specs.Parts.{comma_pieces, after_next}
-use Rattle.c_expressions.proofs.+initializer.Given as goal
+use Rattle.c_expressions.proofs.initializers.+initializer.Given as goal
 
 abbrev pub decreases-initializer : goal.decreases-initializer
 decreases-initializer l = length l.reader.now.rest * 2 + 1

@@ -15,7 +15,7 @@ use Rattle.c_expressions.proofs.Chosen.{behind_three, drop_three}
 use Rattle.c_expressions.proofs.Declared.{has_initializer, initializers_grouped, initializers_pushed}
 use Rattle.c_expressions.proofs.Growing.{grown, some_seen}
 use Rattle.c_expressions.proofs.Loops.{first_pushed, last_next, trailing_read}
-use Rattle.c_expressions.proofs.+initializer.Goals as goal
+use Rattle.c_expressions.proofs.initializers.+initializer.Goals as goal
 
 pub initializer-returns-clause-reads : goal.initializer-returns-clause-reads
 initializer-returns-clause-reads t c =
