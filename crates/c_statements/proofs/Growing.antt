@@ -23,8 +23,7 @@ statements_push (x ∷ ss) s = append_assoc (statement x) (statements (statement
 pub clauses_push : (cs : List OneClause) (c : OneClause) → clauses (clauses_of cs) ++ clauses (clauses_of (c ∷ [])) ≡ clauses (clauses_of (cs ++ c ∷ []))
 clauses_push [] c = refl
 clauses_push (x ∷ cs) c =
-    append_assoc (labels x.labels) (body x.body ++ clauses (clauses_of cs)) (clauses (clauses_of (c ∷ [])))
-    ∙ ap (λ ps. labels x.labels ++ ps) (append_assoc (body x.body) (clauses (clauses_of cs)) (clauses (clauses_of (c ∷ []))) ∙ ap (λ ps. body x.body ++ ps) (clauses_push cs c))
+    append_assoc (labels x.labels ++ body x.body) (clauses (clauses_of cs)) (clauses (clauses_of (c ∷ []))) ∙ ap (λ ps. labels x.labels ++ body x.body ++ ps) (clauses_push cs c)
 
 pub labels_push : (ls : List CaseLabelData) (l : CaseLabelData) → labels ls ++ labels (l ∷ []) ≡ labels (ls ++ l ∷ [])
 labels_push [] l = refl

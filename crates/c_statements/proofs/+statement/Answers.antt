@@ -2,18 +2,20 @@ use Rattle.std.proofs.Common.{◌≡◌, ◌∙◌, ◌<◌, ◌≤◌, ◌+◌,
 use Rattle.c_lexer.specs.TokenClasses.{class_number}
 use Rattle.c_lexer.specs.declared.token_class.TokenClass.TheVariants as T
 use Rattle.c_tree.specs.Statements
-use Rattle.c_tree.specs.StatementViews.{OneClause, body_view, clause_view, clauses_of, item_view, items_of, statement_view, statements_of}
+use Rattle.c_tree.specs.StatementViews.{OneClause, clause_view, clauses_of, item_view, items_of, statement_view, statements_of}
+use Rattle.c_tree.specs.Views.{expression_view}
 use Rattle.c_tables.specs.Grammar.{left_side}
 use Rattle.c_tables.specs.declared.nonterminal.Nonterminal.TheVariants as N
 use Rattle.c_reader.specs.GroupedStatements.{AreGroupedClauses, AreGroupedItems, AreGroupedStatements, IsGroupedBlock, IsGroupedBody, IsGroupedIf, IsGroupedItem, IsGroupedOtherwise, IsGroupedStatement}
-use Rattle.c_reader.specs.Pieces.{Piece, at}
+use Rattle.c_reader.specs.Pieces.{Piece, any, at}
+use Rattle.c_reader.specs.SpelledExpressions.{expression}
 use Rattle.c_reader.specs.SpelledStatements as spelled
 use Rattle.c_reader.specs.States.{Reads}
 use Rattle.c_reader.proofs.Moving.{followed, into, up_to}
 use Rattle.c_expressions.proofs.Growing.{grown}
 use Rattle.c_expressions.proofs.Loops.{again}
 use Rattle.c_statements.proofs.Growing.{clauses_grouped, clauses_push, items_grouped, items_push, statements_grouped, statements_push}
-use Rattle.c_statements.proofs.Joining.{bracketed}
+use Rattle.c_statements.proofs.Joining.{bracketed, cut, enter, join, way}
 use Rattle.c_statements.proofs.+statement.Goals as goal
 
 -- ---- blocks
@@ -98,9 +100,10 @@ while_statement-returns-clause-grouped t c =
 pub do_statement-returns-clause-reads : goal.do_statement-returns-clause-reads
 do_statement-returns-clause-reads t c =
     subst (λ (d : Statements.StatementData). Reads (spelled.statement d) c.args.reader.now c.pass.new.self) (sym c.in_ok-do_while_of.ensures)
-    (followed c.in_ok-place.ensures.reads c.place.ensures.same
-    (followed c.in_ok-body.ensures.reads c.block.ensures.same
-    (followed c.in_ok-while_place.ensures.reads c.place-2.ensures.same (bracketed c.in_ok-condition.ensures.reads c.condition.ensures.same c.in_ok-pass.ensures.reads))))
+    (let condition = cut (any T.LeftParenthesis ∷ expression (expression_view c.in_ok-condition.condition)) (any T.RightParenthesis ∷ []) c.in_ok-condition.ensures.reads c.condition.ensures.same in
+    let while_part = join (way c.in_ok-while_place.ensures.reads c.place-2.ensures.same) condition.front in
+    let end = join condition.behind (way c.in_ok-pass.ensures.reads c.pass.ensures.same) in
+    (join (join (join (way c.in_ok-place.ensures.reads c.place.ensures.same) (way c.in_ok-body.ensures.reads c.block.ensures.same)) while_part) end).reads)
 
 pub do_statement-returns-clause-grouped : goal.do_statement-returns-clause-grouped
 do_statement-returns-clause-grouped t c =
@@ -109,13 +112,10 @@ do_statement-returns-clause-grouped t c =
 pub for_statement-returns-clause-reads : goal.for_statement-returns-clause-reads
 for_statement-returns-clause-reads t c =
     subst (λ (d : Statements.StatementData). Reads (spelled.statement d) c.args.reader.now c.block.new.reader) (sym c.in_ok-for_of.ensures)
-    (followed c.in_ok-place.ensures.reads c.place.ensures.same
-    (followed c.in_ok-pass.ensures.reads c.pass.ensures.same
-    (followed c.in_ok-start.ensures.reads c.optional_start.ensures.same
-    (followed c.in_ok-pass-2.ensures.reads c.pass-2.ensures.same
-    (followed c.in_ok-condition.ensures.reads c.optional_value.ensures.same
-    (followed c.in_ok-pass-3.ensures.reads c.pass-3.ensures.same
-    (followed c.in_ok-step.ensures.reads c.optional_simple.ensures.same (followed c.in_ok-pass-4.ensures.reads c.pass-4.ensures.same c.in_ok-body.ensures.reads))))))))
+    (let start = join (way c.in_ok-place.ensures.reads c.place.ensures.same) (join (way c.in_ok-pass.ensures.reads c.pass.ensures.same) (way c.in_ok-start.ensures.reads c.optional_start.ensures.same)) in
+    let condition = join (way c.in_ok-pass-2.ensures.reads c.pass-2.ensures.same) (way c.in_ok-condition.ensures.reads c.optional_value.ensures.same) in
+    let step = join (way c.in_ok-pass-3.ensures.reads c.pass-3.ensures.same) (way c.in_ok-step.ensures.reads c.optional_simple.ensures.same) in
+    let body = join (way c.in_ok-pass-4.ensures.reads c.pass-4.ensures.same) (way c.in_ok-body.ensures.reads c.block.ensures.same) in (join (join (join start condition) step) body).reads)
 
 pub for_statement-returns-clause-grouped : goal.for_statement-returns-clause-grouped
 for_statement-returns-clause-grouped t c =
@@ -126,10 +126,10 @@ for_statement-returns-clause-grouped t c =
 pub switch_statement-returns-clause-reads : goal.switch_statement-returns-clause-reads
 switch_statement-returns-clause-reads t c =
     subst (λ (d : Statements.StatementData). Reads (spelled.statement d) c.args.reader.now c.place-2.new.self) (sym c.in_ok-switch_of.ensures)
-    (followed c.in_ok-place.ensures.reads c.place.ensures.same
-    (bracketed c.in_ok-subject.ensures.reads c.condition.ensures.same
-    (followed c.in_ok-pass.ensures.reads c.pass.ensures.same
-    (followed c.in_ok-clauses.ensures.reads c.clauses.ensures.same (followed c.in_ok-default.ensures.reads c.default.ensures.same c.in_ok-close.ensures.reads)))))
+    (let subject = cut (any T.LeftParenthesis ∷ expression (expression_view c.in_ok-subject.subject)) (any T.RightParenthesis ∷ []) c.in_ok-subject.ensures.reads c.condition.ensures.same in
+    let front = join (way c.in_ok-place.ensures.reads c.place.ensures.same) subject.front in
+    let clauses = join subject.behind (join (way c.in_ok-pass.ensures.reads c.pass.ensures.same) (way c.in_ok-clauses.ensures.reads c.clauses.ensures.same)) in
+    (join (join (join front clauses) (way c.in_ok-default.ensures.reads c.default.ensures.same)) (way c.in_ok-close.ensures.reads c.place-2.ensures.same)).reads)
 
 pub switch_statement-returns-clause-grouped : goal.switch_statement-returns-clause-grouped
 switch_statement-returns-clause-grouped t c =
@@ -156,9 +156,8 @@ clauses-loop-clauses-preserved t c =
 pub clause-returns-clause-reads : goal.clause-returns-clause-reads
 clause-returns-clause-reads t c =
     subst (λ (d : OneClause). Reads (spelled.clauses (clauses_of (d ∷ []))) c.args.reader.now c.body.new.reader) (sym c.clause_of.ensures)
-    (into c.open.ensures.same c.in_ok-open.ensures.rest
-    (followed c.in_ok-labels.ensures.reads c.labels.ensures.same
-    (subst (λ (ps : List Piece). Reads ps c.labels.new.reader c.body.new.reader) (sym (append-nil (spelled.body (body_view c.in_ok-body.body)))) c.in_ok-body.ensures.reads)))
+    (subst (λ (ps : List Piece). Reads ps c.args.reader.now c.body.new.reader) (sym (append-nil _))
+    (into c.open.ensures.same c.in_ok-open.ensures.rest (followed c.in_ok-labels.ensures.reads c.labels.ensures.same c.in_ok-body.ensures.reads)))
 
 pub clause-returns-clause-grouped : goal.clause-returns-clause-grouped
 clause-returns-clause-grouped t c =
@@ -200,9 +199,9 @@ body-returns-clause-grouped t c = subst IsGroupedBody (sym c.body_of.ensures) (c
 pub if_statement-returns-clause-reads : goal.if_statement-returns-clause-reads
 if_statement-returns-clause-reads t c =
     subst (λ (d : Statements.IfData). Reads (spelled.if_statement d) c.args.reader.now c.otherwise.new.reader) (sym c.in_ok-if_of.ensures)
-    (into c.open.ensures.same c.in_ok-open.ensures.rest
-    (followed c.in_ok-place.ensures.reads c.place.ensures.same
-    (bracketed c.in_ok-condition.ensures.reads c.condition.ensures.same (followed c.in_ok-then.ensures.reads c.block.ensures.same c.in_ok-otherwise.ensures.reads))))
+    (let condition = cut (any T.LeftParenthesis ∷ expression (expression_view c.in_ok-condition.condition)) (any T.RightParenthesis ∷ []) c.in_ok-condition.ensures.reads c.condition.ensures.same in
+    let front = enter c.open.ensures.same c.in_ok-open.ensures.rest (join (way c.in_ok-place.ensures.reads c.place.ensures.same) condition.front) in
+    (join (join front (join condition.behind (way c.in_ok-then.ensures.reads c.block.ensures.same))) (way c.in_ok-otherwise.ensures.reads c.otherwise.ensures.same)).reads)
 
 pub if_statement-returns-clause-grouped : goal.if_statement-returns-clause-grouped
 if_statement-returns-clause-grouped t c =

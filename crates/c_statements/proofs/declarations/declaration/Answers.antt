@@ -1,10 +1,10 @@
-use Rattle.std.proofs.Common.{◌∙◌, List, [], ◌∷◌, ◌++◌, map, sym, subst}
+use Rattle.std.proofs.Common.{◌∙◌, List, [], ◌∷◌, ◌++◌, map, sym, subst, append_assoc}
 use Rattle.c_lexer.specs.declared.token_class.TokenClass.TheVariants as T
 use Rattle.c_tree.specs.declared.declaration.InitDeclarator.{InitDeclarator}
 use Rattle.c_tree.specs.StatementViews.{init_declarator_view}
 use Rattle.c_tree.specs.Views.{specifiers_view}
 use Rattle.c_reader.specs.GroupedStatements.{AreGroupedObjects}
-use Rattle.c_reader.specs.Pieces.{any}
+use Rattle.c_reader.specs.Pieces.{Piece, any}
 use Rattle.c_reader.specs.SpelledExpressions.{specifiers}
 use Rattle.c_reader.specs.SpelledStatements.{objects}
 use Rattle.c_reader.specs.States.{Reads}
@@ -16,7 +16,8 @@ pub returns-then-starts_with-clause-reads : goal.returns-then-starts_with-clause
 returns-then-starts_with-clause-reads c =
     subst (λ (xs : List InitDeclarator). Reads (specifiers (specifiers_view c.in_ok-specifiers.specifiers.items) ++ objects (map init_declarator_view xs) ++ any T.Semicolon ∷ []) c.args.reader.now c.pass.new.self)
     (sym c.new.ensures)
-    (followed c.in_ok-specifiers.ensures.reads c.specifiers.ensures.same (into c.starts_with.ensures.same c.in_ok-starts_with.ensures.rest c.in_ok-pass.ensures.reads))
+    (subst (λ (ps : List Piece). Reads ps c.args.reader.now c.pass.new.self) (sym (append_assoc (specifiers (specifiers_view c.in_ok-specifiers.specifiers.items)) [] (any T.Semicolon ∷ [])))
+    (followed c.in_ok-specifiers.ensures.reads c.specifiers.ensures.same (into c.starts_with.ensures.same c.in_ok-starts_with.ensures.rest c.in_ok-pass.ensures.reads)))
 
 pub returns-then-starts_with-clause-grouped : goal.returns-then-starts_with-clause-grouped
 returns-then-starts_with-clause-grouped c =
@@ -24,7 +25,9 @@ returns-then-starts_with-clause-grouped c =
 
 pub returns-clause-reads : goal.returns-clause-reads
 returns-clause-reads c =
-    followed c.in_ok-specifiers.ensures.reads c.specifiers.ensures.same
+    subst (λ (ps : List Piece). Reads ps c.args.reader.now c.objects.new.reader)
+    (sym (append_assoc (specifiers (specifiers_view c.in_ok-specifiers.specifiers.items)) (objects (map init_declarator_view c.in_ok-declarators.declarators.items)) (any T.Semicolon ∷ [])))
+    (followed c.in_ok-specifiers.ensures.reads c.specifiers.ensures.same
     (into c.starts_with.ensures.same c.in_ok-starts_with.ensures.rest
     (behind_read c.in_ok-declarators.ensures.reads (followed c.in_ok-pointers.ensures.reads c.pointers.ensures.same c.in_ok-name.ensures.reads)
-    (c.word.ensures.same ∙ c.pointers.ensures.same)))
+    (c.word.ensures.same ∙ c.pointers.ensures.same))))

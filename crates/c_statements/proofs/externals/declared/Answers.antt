@@ -1,4 +1,4 @@
-use Rattle.std.proofs.Common.{◌∙◌, List, [], ◌∷◌, ◌++◌, map, refl, sym, ap, subst}
+use Rattle.std.proofs.Common.{◌∙◌, List, [], ◌∷◌, ◌++◌, map, sym, ap, subst, append_assoc}
 use Rattle.c_lexer.specs.declared.token_class.TokenClass.TheVariants as T
 use Rattle.c_tree.specs.declared.declaration.InitDeclarator.{InitDeclarator}
 use Rattle.c_tree.specs.StatementViews.{init_declarator_view}
@@ -17,7 +17,8 @@ pub returns-then-starts_with-clause-reads : goal.returns-then-starts_with-clause
 returns-then-starts_with-clause-reads c =
     record {
       behind = any T.Semicolon ∷ [];
-      is = ap (λ (xs : List InitDeclarator). specifiers (specifiers_view c.args.specifiers.items) ++ objects (map init_declarator_view xs) ++ any T.Semicolon ∷ []) c.new.ensures;
+      is = ap (λ (xs : List InitDeclarator). specifiers (specifiers_view c.args.specifiers.items) ++ objects (map init_declarator_view xs) ++ any T.Semicolon ∷ []) c.new.ensures
+          ∙ append_assoc (specifiers (specifiers_view c.args.specifiers.items)) [] (any T.Semicolon ∷ []);
       reads = into c.starts_with.ensures.same c.in_ok-starts_with.ensures.rest c.in_ok-pass.ensures.reads;
     }
 
@@ -36,7 +37,7 @@ pub returns-clause-reads : goal.returns-clause-reads
 returns-clause-reads c =
     record {
       behind = objects (map init_declarator_view c.in_ok-declarators.declarators.items) ++ any T.Semicolon ∷ [];
-      is = refl;
+      is = append_assoc (specifiers (specifiers_view c.args.specifiers.items)) (objects (map init_declarator_view c.in_ok-declarators.declarators.items)) (any T.Semicolon ∷ []);
       reads = into c.starts_with.ensures.same c.in_ok-starts_with.ensures.rest
           (behind_read c.in_ok-declarators.ensures.reads
           (up_to (followed c.in_ok-pointers.ensures.reads c.pointers.ensures.same c.in_ok-name.ensures.reads) c.in_ok-leads_to.ensures.rest)
