@@ -1,6 +1,6 @@
 -- How the readings of parts make the reading of the whole. A line of the printer joins its parts from the left, and so do
 -- these.
-use Rattle.std.proofs.Common.{◌≡◌, ◌∙◌, ℕ, List, [], ◌∷◌, ◌++◌, refl, sym, ap, subst, append_assoc, append-nil}
+use Rattle.std.proofs.Common.{◌≡◌, ◌∙◌, ℕ, List, [], ◌∷◌, ◌++◌, refl, sym, ap, subst, append_assoc, Result, Ok, Err, IfOk}
 use Rattle.c_lexer.specs.declared.token.Token.{Token}
 use Rattle.c_lexer.specs.declared.token_class.TokenClass.TheVariants as T
 use Rattle.c_reader.specs.Pieces.{Piece, Spells, any}
@@ -28,9 +28,9 @@ leave w same rest = record { reads = up_to w.reads rest; same = same ∙ w.same 
 
 -- ---- an expression between its brackets, and what stands behind them
 
-pub bracketed : {e ps : List Piece} {a b c : State} → Reads (any T.LeftParenthesis ∷ e ++ any T.RightParenthesis ∷ []) a b → b.source ≡ a.source → Reads ps b c
+pub bracketed : (e : List Piece) {ps : List Piece} {a b c : State} → Reads (any T.LeftParenthesis ∷ e ++ any T.RightParenthesis ∷ []) a b → b.source ≡ a.source → Reads ps b c
     → Reads (any T.LeftParenthesis ∷ e ++ any T.RightParenthesis ∷ ps) a c
-bracketed {e} {ps} {a} {b} {c} r same s =
+bracketed e {ps} {a} {b} {c} r same s =
     subst (λ (qs : List Piece). Reads (any T.LeftParenthesis ∷ qs) a c) (append_assoc e (any T.RightParenthesis ∷ []) ps) (followed r same s)
 
 -- ---- a reading in two
@@ -53,11 +53,17 @@ cut ps qs {a} {c} r same =
 -- ---- what was read in part before
 
 -- of what was read before, the last two parts were read here
-pub behind_more : {front stars name whole : List Piece} {a b c : State} → ReadsBehind (front ++ stars ++ name) whole b c → Reads (stars ++ name) a b → b.source ≡ a.source
+pub behind_more : (front stars name : List Piece) {whole : List Piece} {a b c : State} → ReadsBehind (front ++ stars ++ name) whole b c → Reads (stars ++ name) a b → b.source ≡ a.source
     → ReadsBehind front whole a c
-behind_more {front} {stars} {name} {whole} {a} {b} {c} r before same =
+behind_more front stars name {whole} {a} {b} {c} r before same =
     record {
       behind = (stars ++ name) ++ r.behind;
       is = r.is ∙ ap (λ (ps : List Piece). ps ++ r.behind) (append_assoc front stars name) ∙ append_assoc front (stars ++ name) r.behind;
       reads = followed before same r.reads;
     }
+
+-- ---- what a call answered that is handed on
+
+pub each_ok : {T E : Type 0} {P Q : T → Type 0} (r : Result T E) → ((x : T) → P x → Q x) → IfOk r P → IfOk r Q
+each_ok (Ok x) f h = f x h
+each_ok (Err e) f h = tt

@@ -18,7 +18,7 @@ pub assignment_found : (first : ℕ) → Contains (firsts N.Assignment) first �
 assignment_found first c =
     go (found_among AssignmentOperator assignment_number N.Assignment
     (A.Assign ∷ A.Multiply ∷ A.Divide ∷ A.Remainder ∷ A.Add ∷ A.Subtract ∷ A.ShiftLeft ∷ A.ShiftRight ∷ A.And ∷ A.Xor ∷ A.Or ∷ []) []
-    (refl, refl, refl, refl, refl, refl, refl, refl, refl, refl, refl, tt) first c)
+    (refl, (refl, (refl, (refl, (refl, (refl, (refl, (refl, (refl, (refl, (refl, tt))))))))))) first c)
   where
     go : ((operator : AssignmentOperator) × (first ≡ class_number (assignment_sign operator)) × (right_from N.Assignment first ≡ first ∷ [])) ⊎ Contains [] first → IsAssignment first
     go (inl h) = h

@@ -57,6 +57,18 @@ pub(crate) fn simple_statement_of(simple: Simple) -> Statement
     Statement::Simple(simple)
 }
 
+pub(crate) fn continue_of(place: Place) -> Statement
+    ensures { statement_view result ≡ Statements.continue_statement place }
+{
+    Statement::Continue { place }
+}
+
+pub(crate) fn empty_of(place: Place) -> Statement
+    ensures { statement_view result ≡ Statements.empty_statement place }
+{
+    Statement::Empty { place }
+}
+
 pub(crate) fn while_of(
     alloc: Global,
     place: Place,
@@ -159,10 +171,10 @@ pub(crate) fn otherwise_block_of(block: Block) -> Otherwise
     Otherwise::Block(block)
 }
 
-pub(crate) fn otherwise_if_of(alloc: Global, it: If) -> Result<Otherwise, AllocFailed<If>>
-    ensures { IfOk result (λ it. otherwise_view it ≡ Statements.otherwise_if (if_view it)) }
+pub(crate) fn otherwise_if_of(alloc: Global, other: If) -> Result<Otherwise, AllocFailed<If>>
+    ensures { IfOk result (λ it. otherwise_view it ≡ Statements.otherwise_if (if_view other)) }
 {
-    Ok(Otherwise::If(Box::new(alloc, it)?))
+    Ok(Otherwise::If(Box::new(alloc, other)?))
 }
 
 pub(crate) fn clause_of(labels: Vec<CaseLabel>, body: Body) -> Clause

@@ -16,8 +16,8 @@ use crate::declarations::{condition, declaration};
 use crate::parts::{leave, optional_start, optional_value};
 use crate::simple::{optional_simple, simple};
 use crate::statement_nodes::{
-    block_of, block_statement_of, declaration_item_of, do_while_of, for_of, if_statement_of,
-    leave_item_of, simple_statement_of, statement_item_of, while_of,
+    block_of, block_statement_of, continue_of, declaration_item_of, do_while_of, empty_of, for_of,
+    if_statement_of, leave_item_of, simple_statement_of, statement_item_of, while_of,
 };
 use c_lexer::TokenClass;
 use c_reader::Reader;
@@ -186,7 +186,7 @@ fn continue_statement(reader: &mut Reader<'_>) -> Result<Statement, ParseStop>
 {
     let place = reader.place(TokenClass::Continue)?;
     reader.pass(TokenClass::Semicolon)?;
-    Ok(Statement::Continue { place })
+    Ok(continue_of(place))
 }
 
 /// `simple ";"` (C11 6.8.3).
@@ -215,5 +215,5 @@ fn empty_statement(reader: &mut Reader<'_>) -> Result<Statement, ParseStop>
     ensures stop { IfErr result (Stops reader.old.source) }
 {
     let place = reader.place(TokenClass::Semicolon)?;
-    Ok(Statement::Empty { place })
+    Ok(empty_of(place))
 }

@@ -20,8 +20,8 @@ use Rattle.c_statements.proofs.+statement.Goals as goal
 
 -- ---- blocks
 
-pub block-loop-items-preserved : goal.block-loop-items-preserved
-block-loop-items-preserved t c =
+pub statements::block-loop-items-preserved : goal.statements::block-loop-items-preserved
+statements::block-loop-items-preserved t c =
     let fewer = c.in_ok-next.ensures.shorter in
     let same_rest = ap length c.in_ok-option.ensures.rest in
     let before = c.loop-items.invariant.shorter in
@@ -38,105 +38,105 @@ block-loop-items-preserved t c =
           (followed (up_to c.loop-items.invariant.reads c.in_ok-option.ensures.rest) (c.option.ensures.same ∙ c.loop-items.invariant.same) c.in_ok-next.ensures.reads);
     }
 
-pub block-returns-clause-reads : goal.block-returns-clause-reads
-block-returns-clause-reads t c =
+pub statements::block-returns-clause-reads : goal.statements::block-returns-clause-reads
+statements::block-returns-clause-reads t c =
     subst (λ (d : Statements.BlockData). Reads (spelled.block d) c.args.reader.now c.place-2.new.self) (sym c.block_of.ensures)
     (followed (up_to c.loop-items.invariant.reads c.in_ok-option.ensures.rest) (c.option.ensures.same ∙ c.loop-items.invariant.same) c.in_ok-close.ensures.reads)
 
-pub block-returns-clause-grouped : goal.block-returns-clause-grouped
-block-returns-clause-grouped t c = subst IsGroupedBlock (sym c.block_of.ensures) c.loop-items.invariant.grouped
+pub statements::block-returns-clause-grouped : goal.statements::block-returns-clause-grouped
+statements::block-returns-clause-grouped t c = subst IsGroupedBlock (sym c.block_of.ensures) c.loop-items.invariant.grouped
 
-pub item-returns-in-SPECIFIERS-clause-reads : goal.item-returns-in-SPECIFIERS-clause-reads
-item-returns-in-SPECIFIERS-clause-reads t c =
+pub statements::item-returns-in-122-clause-reads : goal.statements::item-returns-in-122-clause-reads
+statements::item-returns-in-122-clause-reads t c =
     subst (λ (d : Statements.ItemData). Reads (spelled.item d) c.args.reader.now c.declaration.new.reader) (sym c.declaration_item_of.ensures)
     (into c.choose.ensures.same c.in_ok-choose.ensures.rest c.in_ok-declaration.ensures.reads)
 
-pub item-returns-in-STATEMENT-clause-reads : goal.item-returns-in-STATEMENT-clause-reads
-item-returns-in-STATEMENT-clause-reads t c =
+pub statements::item-returns-in-149-clause-reads : goal.statements::item-returns-in-149-clause-reads
+statements::item-returns-in-149-clause-reads t c =
     subst (λ (d : Statements.ItemData). Reads (spelled.item d) c.args.reader.now c.statement.new.reader) (sym c.statement_item_of.ensures)
     (into c.choose.ensures.same c.in_ok-choose.ensures.rest c.in_ok-statement.ensures.reads)
 
-pub item-returns-in-LEAVE-clause-reads : goal.item-returns-in-LEAVE-clause-reads
-item-returns-in-LEAVE-clause-reads t c =
+pub statements::item-returns-in-155-clause-reads : goal.statements::item-returns-in-155-clause-reads
+statements::item-returns-in-155-clause-reads t c =
     subst (λ (d : Statements.ItemData). Reads (spelled.item d) c.args.reader.now c.leave.new.reader) (sym c.leave_item_of.ensures)
     (into c.choose.ensures.same c.in_ok-choose.ensures.rest c.in_ok-leave.ensures.reads)
 
-pub item-returns-in-SPECIFIERS-clause-grouped : goal.item-returns-in-SPECIFIERS-clause-grouped
-item-returns-in-SPECIFIERS-clause-grouped t c = subst IsGroupedItem (sym c.declaration_item_of.ensures) c.in_ok-declaration.ensures.grouped
+pub statements::item-returns-in-122-clause-grouped : goal.statements::item-returns-in-122-clause-grouped
+statements::item-returns-in-122-clause-grouped t c = subst IsGroupedItem (sym c.declaration_item_of.ensures) c.in_ok-declaration.ensures.grouped
 
-pub item-returns-in-STATEMENT-clause-grouped : goal.item-returns-in-STATEMENT-clause-grouped
-item-returns-in-STATEMENT-clause-grouped t c = subst IsGroupedItem (sym c.statement_item_of.ensures) c.in_ok-statement.ensures.grouped
+pub statements::item-returns-in-149-clause-grouped : goal.statements::item-returns-in-149-clause-grouped
+statements::item-returns-in-149-clause-grouped t c = subst IsGroupedItem (sym c.statement_item_of.ensures) c.in_ok-statement.ensures.grouped
 
-pub item-returns-in-LEAVE-clause-grouped : goal.item-returns-in-LEAVE-clause-grouped
-item-returns-in-LEAVE-clause-grouped t c = subst IsGroupedItem (sym c.leave_item_of.ensures) c.in_ok-leave.ensures.grouped
+pub statements::item-returns-in-155-clause-grouped : goal.statements::item-returns-in-155-clause-grouped
+statements::item-returns-in-155-clause-grouped t c = subst IsGroupedItem (sym c.leave_item_of.ensures) c.in_ok-leave.ensures.grouped
 
 -- ---- statements
 
-pub statement-returns-in-BLOCK-clause-reads : goal.statement-returns-in-BLOCK-clause-reads
-statement-returns-in-BLOCK-clause-reads t c =
+pub statements::statement-returns-in-145-clause-reads : goal.statements::statement-returns-in-145-clause-reads
+statements::statement-returns-in-145-clause-reads t c =
     subst (λ (d : Statements.StatementData). Reads (spelled.statement d) c.args.reader.now c.block.new.reader) (sym c.block_statement_of.ensures)
     (into c.choose.ensures.same c.in_ok-choose.ensures.rest c.in_ok-block.ensures.reads)
 
-pub statement-returns-in-BLOCK-clause-grouped : goal.statement-returns-in-BLOCK-clause-grouped
-statement-returns-in-BLOCK-clause-grouped t c = subst IsGroupedStatement (sym c.block_statement_of.ensures) c.in_ok-block.ensures.grouped
+pub statements::statement-returns-in-145-clause-grouped : goal.statements::statement-returns-in-145-clause-grouped
+statements::statement-returns-in-145-clause-grouped t c = subst IsGroupedStatement (sym c.block_statement_of.ensures) c.in_ok-block.ensures.grouped
 
-pub statement-returns-in-IF-clause-reads : goal.statement-returns-in-IF-clause-reads
-statement-returns-in-IF-clause-reads t c =
+pub statements::statement-returns-in-157-clause-reads : goal.statements::statement-returns-in-157-clause-reads
+statements::statement-returns-in-157-clause-reads t c =
     subst (λ (d : Statements.StatementData). Reads (spelled.statement d) c.args.reader.now c.if_statement.new.reader) (sym c.if_statement_of.ensures)
     (into c.choose.ensures.same c.in_ok-choose.ensures.rest c.in_ok-if_statement.ensures.reads)
 
-pub statement-returns-in-IF-clause-grouped : goal.statement-returns-in-IF-clause-grouped
-statement-returns-in-IF-clause-grouped t c = subst IsGroupedStatement (sym c.if_statement_of.ensures) c.in_ok-if_statement.ensures.grouped
+pub statements::statement-returns-in-157-clause-grouped : goal.statements::statement-returns-in-157-clause-grouped
+statements::statement-returns-in-157-clause-grouped t c = subst IsGroupedStatement (sym c.if_statement_of.ensures) c.in_ok-if_statement.ensures.grouped
 
-pub while_statement-returns-clause-reads : goal.while_statement-returns-clause-reads
-while_statement-returns-clause-reads t c =
+pub statements::while_statement-returns-clause-reads : goal.statements::while_statement-returns-clause-reads
+statements::while_statement-returns-clause-reads t c =
     subst (λ (d : Statements.StatementData). Reads (spelled.statement d) c.args.reader.now c.block.new.reader) (sym c.in_ok-while_of.ensures)
-    (followed c.in_ok-place.ensures.reads c.place.ensures.same (bracketed c.in_ok-condition.ensures.reads c.condition.ensures.same c.in_ok-body.ensures.reads))
+    (followed c.in_ok-place.ensures.reads c.place.ensures.same (bracketed _ c.in_ok-condition.ensures.reads c.condition.ensures.same c.in_ok-body.ensures.reads))
 
-pub while_statement-returns-clause-grouped : goal.while_statement-returns-clause-grouped
-while_statement-returns-clause-grouped t c =
+pub statements::while_statement-returns-clause-grouped : goal.statements::while_statement-returns-clause-grouped
+statements::while_statement-returns-clause-grouped t c =
     subst IsGroupedStatement (sym c.in_ok-while_of.ensures) (c.in_ok-condition.ensures.grouped, c.in_ok-body.ensures.grouped)
 
-pub do_statement-returns-clause-reads : goal.do_statement-returns-clause-reads
-do_statement-returns-clause-reads t c =
+pub statements::do_statement-returns-clause-reads : goal.statements::do_statement-returns-clause-reads
+statements::do_statement-returns-clause-reads t c =
     subst (λ (d : Statements.StatementData). Reads (spelled.statement d) c.args.reader.now c.pass.new.self) (sym c.in_ok-do_while_of.ensures)
     (let condition = cut (any T.LeftParenthesis ∷ expression (expression_view c.in_ok-condition.condition)) (any T.RightParenthesis ∷ []) c.in_ok-condition.ensures.reads c.condition.ensures.same in
     let while_part = join (way c.in_ok-while_place.ensures.reads c.place-2.ensures.same) condition.front in
     let end = join condition.behind (way c.in_ok-pass.ensures.reads c.pass.ensures.same) in
     (join (join (join (way c.in_ok-place.ensures.reads c.place.ensures.same) (way c.in_ok-body.ensures.reads c.block.ensures.same)) while_part) end).reads)
 
-pub do_statement-returns-clause-grouped : goal.do_statement-returns-clause-grouped
-do_statement-returns-clause-grouped t c =
+pub statements::do_statement-returns-clause-grouped : goal.statements::do_statement-returns-clause-grouped
+statements::do_statement-returns-clause-grouped t c =
     subst IsGroupedStatement (sym c.in_ok-do_while_of.ensures) (c.in_ok-body.ensures.grouped, c.in_ok-condition.ensures.grouped)
 
-pub for_statement-returns-clause-reads : goal.for_statement-returns-clause-reads
-for_statement-returns-clause-reads t c =
+pub statements::for_statement-returns-clause-reads : goal.statements::for_statement-returns-clause-reads
+statements::for_statement-returns-clause-reads t c =
     subst (λ (d : Statements.StatementData). Reads (spelled.statement d) c.args.reader.now c.block.new.reader) (sym c.in_ok-for_of.ensures)
     (let start = join (way c.in_ok-place.ensures.reads c.place.ensures.same) (join (way c.in_ok-pass.ensures.reads c.pass.ensures.same) (way c.in_ok-start.ensures.reads c.optional_start.ensures.same)) in
     let condition = join (way c.in_ok-pass-2.ensures.reads c.pass-2.ensures.same) (way c.in_ok-condition.ensures.reads c.optional_value.ensures.same) in
     let step = join (way c.in_ok-pass-3.ensures.reads c.pass-3.ensures.same) (way c.in_ok-step.ensures.reads c.optional_simple.ensures.same) in
     let body = join (way c.in_ok-pass-4.ensures.reads c.pass-4.ensures.same) (way c.in_ok-body.ensures.reads c.block.ensures.same) in (join (join (join start condition) step) body).reads)
 
-pub for_statement-returns-clause-grouped : goal.for_statement-returns-clause-grouped
-for_statement-returns-clause-grouped t c =
+pub statements::for_statement-returns-clause-grouped : goal.statements::for_statement-returns-clause-grouped
+statements::for_statement-returns-clause-grouped t c =
     subst IsGroupedStatement (sym c.in_ok-for_of.ensures) (c.in_ok-start.ensures.grouped, c.in_ok-condition.ensures.grouped, c.in_ok-step.ensures.grouped, c.in_ok-body.ensures.grouped)
 
 -- ---- `switch`
 
-pub switch_statement-returns-clause-reads : goal.switch_statement-returns-clause-reads
-switch_statement-returns-clause-reads t c =
+pub clauses::switch_statement-returns-clause-reads : goal.clauses::switch_statement-returns-clause-reads
+clauses::switch_statement-returns-clause-reads t c =
     subst (λ (d : Statements.StatementData). Reads (spelled.statement d) c.args.reader.now c.place-2.new.self) (sym c.in_ok-switch_of.ensures)
     (let subject = cut (any T.LeftParenthesis ∷ expression (expression_view c.in_ok-subject.subject)) (any T.RightParenthesis ∷ []) c.in_ok-subject.ensures.reads c.condition.ensures.same in
     let front = join (way c.in_ok-place.ensures.reads c.place.ensures.same) subject.front in
     let clauses = join subject.behind (join (way c.in_ok-pass.ensures.reads c.pass.ensures.same) (way c.in_ok-clauses.ensures.reads c.clauses.ensures.same)) in
     (join (join (join front clauses) (way c.in_ok-default.ensures.reads c.default.ensures.same)) (way c.in_ok-close.ensures.reads c.place-2.ensures.same)).reads)
 
-pub switch_statement-returns-clause-grouped : goal.switch_statement-returns-clause-grouped
-switch_statement-returns-clause-grouped t c =
+pub clauses::switch_statement-returns-clause-grouped : goal.clauses::switch_statement-returns-clause-grouped
+clauses::switch_statement-returns-clause-grouped t c =
     subst IsGroupedStatement (sym c.in_ok-switch_of.ensures) (c.in_ok-subject.ensures.grouped, c.in_ok-clauses.ensures.grouped, c.in_ok-default.ensures.grouped)
 
-pub clauses-loop-clauses-preserved : goal.clauses-loop-clauses-preserved
-clauses-loop-clauses-preserved t c =
+pub clauses::clauses-loop-clauses-preserved : goal.clauses::clauses-loop-clauses-preserved
+clauses::clauses-loop-clauses-preserved t c =
     let fewer = c.in_ok-next.ensures.shorter in
     let same_rest = ap length c.in_ok-option.ensures.rest in
     let before = c.loop-clauses.invariant.shorter in
@@ -153,23 +153,23 @@ clauses-loop-clauses-preserved t c =
           (followed (up_to c.loop-clauses.invariant.reads c.in_ok-option.ensures.rest) (c.option.ensures.same ∙ c.loop-clauses.invariant.same) c.in_ok-next.ensures.reads);
     }
 
-pub clause-returns-clause-reads : goal.clause-returns-clause-reads
-clause-returns-clause-reads t c =
+pub clauses::clause-returns-clause-reads : goal.clauses::clause-returns-clause-reads
+clauses::clause-returns-clause-reads t c =
     subst (λ (d : OneClause). Reads (spelled.clauses (clauses_of (d ∷ []))) c.args.reader.now c.body.new.reader) (sym c.clause_of.ensures)
     (subst (λ (ps : List Piece). Reads ps c.args.reader.now c.body.new.reader) (sym (append-nil _))
     (into c.open.ensures.same c.in_ok-open.ensures.rest (followed c.in_ok-labels.ensures.reads c.labels.ensures.same c.in_ok-body.ensures.reads)))
 
-pub clause-returns-clause-grouped : goal.clause-returns-clause-grouped
-clause-returns-clause-grouped t c =
+pub clauses::clause-returns-clause-grouped : goal.clauses::clause-returns-clause-grouped
+clauses::clause-returns-clause-grouped t c =
     subst (λ (d : OneClause). AreGroupedClauses (clauses_of (d ∷ []))) (sym c.clause_of.ensures) (c.in_ok-labels.ensures.some, c.in_ok-labels.ensures.grouped, c.in_ok-body.ensures.grouped, tt)
 
-pub default-returns-clause-reads : goal.default-returns-clause-reads
-default-returns-clause-reads t c =
+pub clauses::default-returns-clause-reads : goal.clauses::default-returns-clause-reads
+clauses::default-returns-clause-reads t c =
     into c.option.ensures.same c.in_ok-option.ensures.rest
     (followed c.in_ok-pass.ensures.reads c.pass.ensures.same (followed c.in_ok-pass-2.ensures.reads c.pass-2.ensures.same c.in_ok-body.ensures.reads))
 
-pub body-loop-statements-preserved : goal.body-loop-statements-preserved
-body-loop-statements-preserved t c =
+pub clauses::body-loop-statements-preserved : goal.clauses::body-loop-statements-preserved
+clauses::body-loop-statements-preserved t c =
     let fewer = c.in_ok-next.ensures.shorter in
     let same_rest = ap length c.in_ok-option.ensures.rest in
     let before = c.loop-statements.invariant.shorter in
@@ -186,43 +186,43 @@ body-loop-statements-preserved t c =
           (followed (up_to c.loop-statements.invariant.reads c.in_ok-option.ensures.rest) (c.option.ensures.same ∙ c.loop-statements.invariant.same) c.in_ok-next.ensures.reads);
     }
 
-pub body-returns-clause-reads : goal.body-returns-clause-reads
-body-returns-clause-reads t c =
+pub clauses::body-returns-clause-reads : goal.clauses::body-returns-clause-reads
+clauses::body-returns-clause-reads t c =
     subst (λ (d : Statements.BodyData). Reads (spelled.body d) c.args.reader.now c.leave.new.reader) (sym c.body_of.ensures)
     (followed (up_to c.loop-statements.invariant.reads c.in_ok-option.ensures.rest) (c.option.ensures.same ∙ c.loop-statements.invariant.same) c.in_ok-leave.ensures.reads)
 
-pub body-returns-clause-grouped : goal.body-returns-clause-grouped
-body-returns-clause-grouped t c = subst IsGroupedBody (sym c.body_of.ensures) (c.loop-statements.invariant.grouped, c.in_ok-leave.ensures.grouped)
+pub clauses::body-returns-clause-grouped : goal.clauses::body-returns-clause-grouped
+clauses::body-returns-clause-grouped t c = subst IsGroupedBody (sym c.body_of.ensures) (c.loop-statements.invariant.grouped, c.in_ok-leave.ensures.grouped)
 
 -- ---- `if`
 
-pub if_statement-returns-clause-reads : goal.if_statement-returns-clause-reads
-if_statement-returns-clause-reads t c =
+pub branches::if_statement-returns-clause-reads : goal.branches::if_statement-returns-clause-reads
+branches::if_statement-returns-clause-reads t c =
     subst (λ (d : Statements.IfData). Reads (spelled.if_statement d) c.args.reader.now c.otherwise.new.reader) (sym c.in_ok-if_of.ensures)
     (let condition = cut (any T.LeftParenthesis ∷ expression (expression_view c.in_ok-condition.condition)) (any T.RightParenthesis ∷ []) c.in_ok-condition.ensures.reads c.condition.ensures.same in
     let front = enter c.open.ensures.same c.in_ok-open.ensures.rest (join (way c.in_ok-place.ensures.reads c.place.ensures.same) condition.front) in
     (join (join front (join condition.behind (way c.in_ok-then.ensures.reads c.block.ensures.same))) (way c.in_ok-otherwise.ensures.reads c.otherwise.ensures.same)).reads)
 
-pub if_statement-returns-clause-grouped : goal.if_statement-returns-clause-grouped
-if_statement-returns-clause-grouped t c =
+pub branches::if_statement-returns-clause-grouped : goal.branches::if_statement-returns-clause-grouped
+branches::if_statement-returns-clause-grouped t c =
     subst IsGroupedIf (sym c.in_ok-if_of.ensures) (c.in_ok-condition.ensures.grouped, c.in_ok-then.ensures.grouped, c.in_ok-otherwise.ensures.grouped)
 
-pub otherwise-returns-clause-reads : goal.otherwise-returns-clause-reads
-otherwise-returns-clause-reads t c =
+pub branches::otherwise-returns-clause-reads : goal.branches::otherwise-returns-clause-reads
+branches::otherwise-returns-clause-reads t c =
     into c.option.ensures.same c.in_ok-option.ensures.rest (followed c.in_ok-pass.ensures.reads c.pass.ensures.same c.in_ok-branch.ensures.reads)
 
-pub branch-returns-then-leads_to-clause-reads : goal.branch-returns-then-leads_to-clause-reads
-branch-returns-then-leads_to-clause-reads t c =
+pub branches::branch-returns-then-branch-clause-reads : goal.branches::branch-returns-then-branch-clause-reads
+branches::branch-returns-then-branch-clause-reads t c =
     subst (λ (d : Statements.OtherwiseData). Reads (spelled.otherwise d) c.args.reader.now c.block.new.reader) (sym c.otherwise_block_of.ensures)
     (into c.leads_to.ensures.same c.in_ok-leads_to.ensures.rest c.in_ok-block.ensures.reads)
 
-pub branch-returns-then-leads_to-clause-grouped : goal.branch-returns-then-leads_to-clause-grouped
-branch-returns-then-leads_to-clause-grouped t c = subst IsGroupedOtherwise (sym c.otherwise_block_of.ensures) c.in_ok-block.ensures.grouped
+pub branches::branch-returns-then-branch-clause-grouped : goal.branches::branch-returns-then-branch-clause-grouped
+branches::branch-returns-then-branch-clause-grouped t c = subst IsGroupedOtherwise (sym c.otherwise_block_of.ensures) c.in_ok-block.ensures.grouped
 
-pub branch-returns-clause-reads : goal.branch-returns-clause-reads
-branch-returns-clause-reads t c =
+pub branches::branch-returns-clause-reads : goal.branches::branch-returns-clause-reads
+branches::branch-returns-clause-reads t c =
     subst (λ (d : Statements.OtherwiseData). Reads (spelled.otherwise d) c.args.reader.now c.if_statement.new.reader) (sym c.in_ok-otherwise_if_of.ensures)
     (into c.leads_to.ensures.same c.in_ok-leads_to.ensures.rest c.in_ok-other.ensures.reads)
 
-pub branch-returns-clause-grouped : goal.branch-returns-clause-grouped
-branch-returns-clause-grouped t c = subst IsGroupedOtherwise (sym c.in_ok-otherwise_if_of.ensures) c.in_ok-other.ensures.grouped
+pub branches::branch-returns-clause-grouped : goal.branches::branch-returns-clause-grouped
+branches::branch-returns-clause-grouped t c = subst IsGroupedOtherwise (sym c.in_ok-otherwise_if_of.ensures) c.in_ok-other.ensures.grouped

@@ -11,50 +11,50 @@ use Rattle.c_reader.specs.SpelledStatements as spelled
 use Rattle.c_reader.specs.States.{Reads}
 use Rattle.c_statements.proofs.+statement.Given as goal
 
-abbrev pub decreases-block : goal.decreases-block
-decreases-block l = length l.reader.now.rest * 4
+abbrev pub decreases-statements::block : goal.decreases-statements::block
+decreases-statements::block l = length l.reader.now.rest * 4
 
-abbrev pub decreases-item : goal.decreases-item
-decreases-item l = length l.reader.now.rest * 4 + 2
+abbrev pub decreases-statements::item : goal.decreases-statements::item
+decreases-statements::item l = length l.reader.now.rest * 4 + 2
 
-abbrev pub decreases-statement : goal.decreases-statement
-decreases-statement l = length l.reader.now.rest * 4 + 1
+abbrev pub decreases-statements::statement : goal.decreases-statements::statement
+decreases-statements::statement l = length l.reader.now.rest * 4 + 1
 
-abbrev pub decreases-while_statement : goal.decreases-while_statement
-decreases-while_statement l = length l.reader.now.rest * 4
+abbrev pub decreases-statements::while_statement : goal.decreases-statements::while_statement
+decreases-statements::while_statement l = length l.reader.now.rest * 4
 
-abbrev pub decreases-do_statement : goal.decreases-do_statement
-decreases-do_statement l = length l.reader.now.rest * 4
+abbrev pub decreases-statements::do_statement : goal.decreases-statements::do_statement
+decreases-statements::do_statement l = length l.reader.now.rest * 4
 
-abbrev pub decreases-for_statement : goal.decreases-for_statement
-decreases-for_statement l = length l.reader.now.rest * 4
+abbrev pub decreases-statements::for_statement : goal.decreases-statements::for_statement
+decreases-statements::for_statement l = length l.reader.now.rest * 4
 
-abbrev pub decreases-switch_statement : goal.decreases-switch_statement
-decreases-switch_statement l = length l.reader.now.rest * 4
+abbrev pub decreases-clauses::switch_statement : goal.decreases-clauses::switch_statement
+decreases-clauses::switch_statement l = length l.reader.now.rest * 4
 
-abbrev pub decreases-clauses : goal.decreases-clauses
-decreases-clauses l = length l.reader.now.rest * 4 + 1
+abbrev pub decreases-clauses::clauses : goal.decreases-clauses::clauses
+decreases-clauses::clauses l = length l.reader.now.rest * 4 + 1
 
-abbrev pub decreases-clause : goal.decreases-clause
-decreases-clause l = length l.reader.now.rest * 4
+abbrev pub decreases-clauses::clause : goal.decreases-clauses::clause
+decreases-clauses::clause l = length l.reader.now.rest * 4
 
-abbrev pub decreases-default : goal.decreases-default
-decreases-default l = length l.reader.now.rest * 4
+abbrev pub decreases-clauses::default : goal.decreases-clauses::default
+decreases-clauses::default l = length l.reader.now.rest * 4
 
-abbrev pub decreases-body : goal.decreases-body
-decreases-body l = length l.reader.now.rest * 4 + 2
+abbrev pub decreases-clauses::body : goal.decreases-clauses::body
+decreases-clauses::body l = length l.reader.now.rest * 4 + 2
 
-abbrev pub decreases-if_statement : goal.decreases-if_statement
-decreases-if_statement l = length l.reader.now.rest * 4
+abbrev pub decreases-branches::if_statement : goal.decreases-branches::if_statement
+decreases-branches::if_statement l = length l.reader.now.rest * 4
 
-abbrev pub decreases-otherwise : goal.decreases-otherwise
-decreases-otherwise l = length l.reader.now.rest * 4
+abbrev pub decreases-branches::otherwise : goal.decreases-branches::otherwise
+decreases-branches::otherwise l = length l.reader.now.rest * 4
 
-abbrev pub decreases-branch : goal.decreases-branch
-decreases-branch l = length l.reader.now.rest * 4 + 1
+abbrev pub decreases-branches::branch : goal.decreases-branches::branch
+decreases-branches::branch l = length l.reader.now.rest * 4 + 1
 
-abbrev pub invariant-block-loop-items : goal.invariant-block-loop-items
-invariant-block-loop-items l = record {
+abbrev pub invariant-statements::block-loop-items : goal.invariant-statements::block-loop-items
+invariant-statements::block-loop-items l = record {
   same : l.reader.source ≡ l.fn.reader.source;
   next : l.reader.pending ≡ left_side N.BlockItems ∷ class_number T.RightBrace ∷ drop 1 l.fn.reader.pending;
   shorter : length l.reader.rest < length l.fn.reader.rest;
@@ -62,11 +62,11 @@ invariant-block-loop-items l = record {
   reads : Reads (at T.LeftBrace l.place ∷ spelled.items (items_of (map item_view l.items.items))) l.fn.reader l.reader;
 }
 
-abbrev pub decreases-block-loop-items : goal.decreases-block-loop-items
-decreases-block-loop-items l = length l.reader.rest
+abbrev pub decreases-statements::block-loop-items : goal.decreases-statements::block-loop-items
+decreases-statements::block-loop-items l = length l.reader.rest
 
-abbrev pub invariant-clauses-loop-clauses : goal.invariant-clauses-loop-clauses
-invariant-clauses-loop-clauses l = record {
+abbrev pub invariant-clauses::clauses-loop-clauses : goal.invariant-clauses::clauses-loop-clauses
+invariant-clauses::clauses-loop-clauses l = record {
   same : l.reader.source ≡ l.fn.reader.source;
   next : l.reader.pending ≡ left_side N.StatementClauses ∷ drop 1 l.fn.reader.pending;
   shorter : length l.reader.rest ≤ length l.fn.reader.rest;
@@ -74,11 +74,11 @@ invariant-clauses-loop-clauses l = record {
   reads : Reads (spelled.clauses (clauses_of (map clause_view l.clauses.items))) l.fn.reader l.reader;
 }
 
-abbrev pub decreases-clauses-loop-clauses : goal.decreases-clauses-loop-clauses
-decreases-clauses-loop-clauses l = length l.reader.rest
+abbrev pub decreases-clauses::clauses-loop-clauses : goal.decreases-clauses::clauses-loop-clauses
+decreases-clauses::clauses-loop-clauses l = length l.reader.rest
 
-abbrev pub invariant-body-loop-statements : goal.invariant-body-loop-statements
-invariant-body-loop-statements l = record {
+abbrev pub invariant-clauses::body-loop-statements : goal.invariant-clauses::body-loop-statements
+invariant-clauses::body-loop-statements l = record {
   same : l.reader.source ≡ l.fn.reader.source;
   next : l.reader.pending ≡ left_side N.BodyStatements ∷ left_side N.Leave ∷ drop 1 l.fn.reader.pending;
   shorter : length l.reader.rest ≤ length l.fn.reader.rest;
@@ -86,5 +86,5 @@ invariant-body-loop-statements l = record {
   reads : Reads (spelled.statements (statements_of (map statement_view l.statements.items))) l.fn.reader l.reader;
 }
 
-abbrev pub decreases-body-loop-statements : goal.decreases-body-loop-statements
-decreases-body-loop-statements l = length l.reader.rest
+abbrev pub decreases-clauses::body-loop-statements : goal.decreases-clauses::body-loop-statements
+decreases-clauses::body-loop-statements l = length l.reader.rest

@@ -12,16 +12,16 @@ use Rattle.c_reader.proofs.Moving.{followed, into}
 use Rattle.c_expressions.proofs.Loops.{behind_read}
 use Rattle.c_statements.proofs.declarations.declaration.Goals as goal
 
-pub returns-then-starts_with-clause-reads : goal.returns-then-starts_with-clause-reads
-returns-then-starts_with-clause-reads c =
+pub returns-then-branch-clause-reads : goal.returns-then-branch-clause-reads
+returns-then-branch-clause-reads c =
     subst (λ (xs : List InitDeclarator). Reads (specifiers (specifiers_view c.in_ok-specifiers.specifiers.items) ++ objects (map init_declarator_view xs) ++ any T.Semicolon ∷ []) c.args.reader.now c.pass.new.self)
-    (sym c.new.ensures)
+    (sym c.new.ensures.items)
     (subst (λ (ps : List Piece). Reads ps c.args.reader.now c.pass.new.self) (sym (append_assoc (specifiers (specifiers_view c.in_ok-specifiers.specifiers.items)) [] (any T.Semicolon ∷ [])))
     (followed c.in_ok-specifiers.ensures.reads c.specifiers.ensures.same (into c.starts_with.ensures.same c.in_ok-starts_with.ensures.rest c.in_ok-pass.ensures.reads)))
 
-pub returns-then-starts_with-clause-grouped : goal.returns-then-starts_with-clause-grouped
-returns-then-starts_with-clause-grouped c =
-    (c.in_ok-specifiers.ensures.grouped, subst (λ (xs : List InitDeclarator). AreGroupedObjects (map init_declarator_view xs)) (sym c.new.ensures) tt)
+pub returns-then-branch-clause-grouped : goal.returns-then-branch-clause-grouped
+returns-then-branch-clause-grouped c =
+    (c.in_ok-specifiers.ensures.grouped, subst (λ (xs : List InitDeclarator). AreGroupedObjects (map init_declarator_view xs)) (sym c.new.ensures.items) tt)
 
 pub returns-clause-reads : goal.returns-clause-reads
 returns-clause-reads c =

@@ -20,10 +20,10 @@ loop-parameters-init c =
       next = search rules;
       shorter = search rules;
       some = grind arith;
-      grouped = subst AreGroupedParameters (first_pushed parameter_view (λ (qs : List ParameterData). qs) c.new.result.items c.push.new.self.items c.in_ok-first.first c.new.ensures c.in_ok-push.ensures.items)
+      grouped = subst AreGroupedParameters (first_pushed parameter_view (λ (qs : List ParameterData). qs) c.new-parameters.result.items c.push.new.self.items c.in_ok-first.first c.new-parameters.ensures.items c.in_ok-push.ensures.items)
           (c.in_ok-first.ensures.grouped, tt);
       reads = subst (λ (ps : List Piece). Reads ps c.args.reader.now c.parameter.new.reader)
-          (sym (append-nil _) ∙ first_pushed parameter_view spelled.parameters c.new.result.items c.push.new.self.items c.in_ok-first.first c.new.ensures c.in_ok-push.ensures.items)
+          (sym (append-nil _) ∙ first_pushed parameter_view spelled.parameters c.new-parameters.result.items c.push.new.self.items c.in_ok-first.first c.new-parameters.ensures.items c.in_ok-push.ensures.items)
           c.in_ok-first.ensures.reads;
     }
 
@@ -39,10 +39,10 @@ loop-parameters-preserved c =
           c.in_ok-option.ensures.moved (c.in_ok-next.ensures.next ∙ ap (drop 1) c.in_ok-pass.ensures.next ∙ drop_two c.option.new.self.pending) c.loop-parameters.invariant.next;
       shorter = omega arith;
       some = grind arith;
-      grouped = subst AreGroupedParameters (grown parameter_view (λ (qs : List ParameterData). qs) c.loop-parameters.parameters.items c.push-in-loop-parameters.new.self.items c.in_ok-next.next c.in_ok-push-in-loop-parameters.ensures.items)
+      grouped = subst AreGroupedParameters (grown parameter_view (λ (qs : List ParameterData). qs) c.loop-parameters.parameters.items c.push-in-loop-parameters.new.self.items c.in_ok-next.next c.in_ok-push-2.ensures.items)
           (parameters_grouped (map parameter_view c.loop-parameters.parameters.items) (parameter_view c.in_ok-next.next) c.loop-parameters.invariant.grouped c.in_ok-next.ensures.grouped);
       reads = subst (λ (ps : List Piece). Reads ps c.args.reader.now c.parameter-in-loop-parameters.new.reader)
-          (parameters_pushed c.loop-parameters.parameters.items c.push-in-loop-parameters.new.self.items c.in_ok-next.next c.loop-parameters.invariant.some c.in_ok-push-in-loop-parameters.ensures.items)
+          (parameters_pushed c.loop-parameters.parameters.items c.push-in-loop-parameters.new.self.items c.in_ok-next.next c.loop-parameters.invariant.some c.in_ok-push-2.ensures.items)
           (followed (up_to c.loop-parameters.invariant.reads c.in_ok-option.ensures.rest) (c.option.ensures.same ∙ c.loop-parameters.invariant.same) (followed c.in_ok-pass.ensures.reads c.pass.ensures.same c.in_ok-next.ensures.reads));
     }
 

@@ -19,10 +19,10 @@ loop-labels-init c =
       next = search rules;
       shorter = search rules;
       some = grind arith;
-      grouped = subst AreGroupedLabels (first_pushed case_label_view (λ (ls : List CaseLabelData). ls) c.new.result.items c.push.new.self.items c.in_ok-first.first c.new.ensures c.in_ok-push.ensures.items)
+      grouped = subst AreGroupedLabels (first_pushed case_label_view (λ (ls : List CaseLabelData). ls) c.new-labels.result.items c.push.new.self.items c.in_ok-first.first c.new-labels.ensures.items c.in_ok-push.ensures.items)
           c.in_ok-first.ensures.grouped;
       reads = subst (λ (ps : List Piece). Reads ps c.args.reader.now c.label.new.reader)
-          (first_pushed case_label_view spelled.labels c.new.result.items c.push.new.self.items c.in_ok-first.first c.new.ensures c.in_ok-push.ensures.items) c.in_ok-first.ensures.reads;
+          (first_pushed case_label_view spelled.labels c.new-labels.result.items c.push.new.self.items c.in_ok-first.first c.new-labels.ensures.items c.in_ok-push.ensures.items) c.in_ok-first.ensures.reads;
     }
 
 pub loop-labels-preserved : goal.loop-labels-preserved
@@ -36,11 +36,11 @@ loop-labels-preserved c =
           c.in_ok-option.ensures.moved c.in_ok-next.ensures.next c.loop-labels.invariant.next;
       shorter = omega arith;
       some = grind arith;
-      grouped = subst AreGroupedLabels (grown case_label_view (λ (ls : List CaseLabelData). ls) c.loop-labels.labels.items c.push-in-loop-labels.new.self.items c.in_ok-next.next c.in_ok-push-in-loop-labels.ensures.items)
+      grouped = subst AreGroupedLabels (grown case_label_view (λ (ls : List CaseLabelData). ls) c.loop-labels.labels.items c.push-in-loop-labels.new.self.items c.in_ok-next.next c.in_ok-push-2.ensures.items)
           (labels_grouped (map case_label_view c.loop-labels.labels.items) (case_label_view c.in_ok-next.next) c.loop-labels.invariant.grouped c.in_ok-next.ensures.grouped);
       reads = subst (λ (ps : List Piece). Reads ps c.args.reader.now c.label-in-loop-labels.new.reader)
           (labels_push (map case_label_view c.loop-labels.labels.items) (case_label_view c.in_ok-next.next)
-          ∙ grown case_label_view spelled.labels c.loop-labels.labels.items c.push-in-loop-labels.new.self.items c.in_ok-next.next c.in_ok-push-in-loop-labels.ensures.items)
+          ∙ grown case_label_view spelled.labels c.loop-labels.labels.items c.push-in-loop-labels.new.self.items c.in_ok-next.next c.in_ok-push-2.ensures.items)
           (followed (up_to c.loop-labels.invariant.reads c.in_ok-option.ensures.rest) (c.option.ensures.same ∙ c.loop-labels.invariant.same) c.in_ok-next.ensures.reads);
     }
 

@@ -8,9 +8,9 @@ use Rattle.c_statements.proofs.parts.leave.Goals as goal
 
 pub returns-clause-reads : goal.returns-clause-reads
 returns-clause-reads c =
-    subst (λ (d : LeaveData). Reads (spelled.leave d) c.args.reader.now c.pass.new.self) (sym c.in_ok-return_of.ensures)
+    subst (λ (d : LeaveData). Reads (spelled.leave d) c.args.reader.now c.pass-2.new.self) (sym c.in_ok-return_of.ensures)
     (into c.starts_with.ensures.same c.in_ok-starts_with.ensures.rest
-    (followed c.in_ok-place.ensures.reads c.place.ensures.same (followed c.in_ok-value.ensures.reads c.optional_value.ensures.same c.in_ok-pass.ensures.reads)))
+    (followed c.in_ok-place-2.ensures.reads c.place-2.ensures.same (followed c.in_ok-value.ensures.reads c.optional_value.ensures.same c.in_ok-pass-2.ensures.reads)))
 
 pub returns-clause-grouped : goal.returns-clause-grouped
 returns-clause-grouped c = subst IsGroupedLeave (sym c.in_ok-return_of.ensures) c.in_ok-value.ensures.grouped
