@@ -48,7 +48,7 @@ pub record Cut (ps qs : List Piece) (a c : State) : Type 0 where
 pub cut : (ps qs : List Piece) {a c : State} → Reads (ps ++ qs) a c → c.source ≡ a.source → Cut ps qs a c
 cut ps qs {a} {c} r same =
     let s = spells_split a.source.text ps qs a.rest c.rest r.spells in
-    record { between = record a { rest = s.0 }; front = record { reads = record { spells = s.1 }; same = refl }; behind = record { reads = record { spells = s.2 }; same = same }; }
+    record { between = record a { rest = s.0 }; front = record { reads = record { spells = s.1 }; same = refl }; behind = record { reads = record { spells = s.2 }; same = same } }
 
 -- ---- what was read in part before
 

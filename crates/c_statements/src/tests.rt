@@ -36,24 +36,42 @@ const ROWS: [(&str, &str); 48] = [
     ("int f(void) { int a; a = 1; ; }", "tree"),
     ("int f(void) { if (a) { } }", "tree"),
     ("int f(void) { if (a) { } else { } }", "tree"),
-    ("int f(void) { if (a) { } else if (b) { } else { } }", "tree"),
+    (
+        "int f(void) { if (a) { } else if (b) { } else { } }",
+        "tree",
+    ),
     ("int f(void) { while (a) { break; } }", "tree"),
     ("int f(void) { do { continue; } while (a); }", "tree"),
     ("int f(void) { for (;;) { } }", "tree"),
     ("int f(void) { for (int i = 0; i < 3; i++) { } }", "tree"),
     ("int f(void) { for (i = 0; i < 3; ++i) { } }", "tree"),
-    ("int f(void) { switch (a) { case 1: case 2: b = 1; break; default: return; } }", "tree"),
+    (
+        "int f(void) { switch (a) { case 1: case 2: b = 1; break; default: return; } }",
+        "tree",
+    ),
     ("int f(void) { switch (a) { } }", "tree"),
-    ("int f(void) { a += 1; a <<= 2; --a; a--; f(); return; }", "tree"),
+    (
+        "int f(void) { a += 1; a <<= 2; --a; a--; f(); return; }",
+        "tree",
+    ),
     // Expressions.
     ("int x = a ? b : c ? d : e;", "tree"),
     ("int x = a || b && c | d ^ e & f == g != h;", "tree"),
-    ("int x = a < b > c <= d >= e << f >> g + h - i * j / k % l;", "tree"),
-    ("int x = &a, y = *b, z = -c, u = +d, v = ~e, w = !f;", "tree"),
+    (
+        "int x = a < b > c <= d >= e << f >> g + h - i * j / k % l;",
+        "tree",
+    ),
+    (
+        "int x = &a, y = *b, z = -c, u = +d, v = ~e, w = !f;",
+        "tree",
+    ),
     ("int x = sizeof(int) + sizeof(a) + (long)b;", "tree"),
     ("int x = (a)[1](2, 3).m->n;", "tree"),
     ("int x = f()(a);", "tree"),
-    ("int x = sizeof(struct { int a[2]; }) * sizeof(enum { A = 1 });", "tree"),
+    (
+        "int x = sizeof(struct { int a[2]; }) * sizeof(enum { A = 1 });",
+        "tree",
+    ),
     // Where a text leaves the grammar.
     ("int", "At(1)"),
     ("int f()", "At(3)"),

@@ -30,7 +30,7 @@ returns-in_ok-postfix_of-in-44-clause-reads c =
 
 pub returns-in_ok-simple_expression_of-in-65535-clause-reads : goal.returns-in_ok-simple_expression_of-in-65535-clause-reads
 returns-in_ok-simple_expression_of-in-65535-clause-reads c =
-    record { behind = []; is = ap spelled.simple c.in_ok-simple_expression_of.ensures ∙ sym (append-nil _); reads = record { spells = sym c.in_ok-choose.ensures.rest }; }
+    record { behind = []; is = ap spelled.simple c.in_ok-simple_expression_of.ensures ∙ sym (append-nil _); reads = record { spells = sym c.in_ok-choose.ensures.rest } }
 
 pub returns-in_ok-postfix_of-in-43-clause-grouped : goal.returns-in_ok-postfix_of-in-43-clause-grouped
 returns-in_ok-postfix_of-in-43-clause-grouped c = subst IsGroupedSimple (sym c.in_ok-postfix_of.ensures) c.requires.operand
