@@ -46,47 +46,47 @@ statements::block-returns-clause-reads t c =
 pub statements::block-returns-clause-grouped : goal.statements::block-returns-clause-grouped
 statements::block-returns-clause-grouped t c = subst IsGroupedBlock (sym c.block_of.ensures) c.loop-items.invariant.grouped
 
-pub statements::item-returns-in-122-clause-reads : goal.statements::item-returns-in-122-clause-reads
-statements::item-returns-in-122-clause-reads t c =
+pub statements::item-returns-in_ok-declaration-in-122-clause-reads : goal.statements::item-returns-in_ok-declaration-in-122-clause-reads
+statements::item-returns-in_ok-declaration-in-122-clause-reads t c =
     subst (λ (d : Statements.ItemData). Reads (spelled.item d) c.args.reader.now c.declaration.new.reader) (sym c.declaration_item_of.ensures)
-    (into c.choose.ensures.same c.in_ok-choose.ensures.rest c.in_ok-declaration.ensures.reads)
+    (into c.choose.ensures.same c.in_ok-choose.ensures.rest c.in_ok-declaration-in-122.ensures.reads)
 
-pub statements::item-returns-in-149-clause-reads : goal.statements::item-returns-in-149-clause-reads
-statements::item-returns-in-149-clause-reads t c =
+pub statements::item-returns-in_ok-statement-in-149-clause-reads : goal.statements::item-returns-in_ok-statement-in-149-clause-reads
+statements::item-returns-in_ok-statement-in-149-clause-reads t c =
     subst (λ (d : Statements.ItemData). Reads (spelled.item d) c.args.reader.now c.statement.new.reader) (sym c.statement_item_of.ensures)
-    (into c.choose.ensures.same c.in_ok-choose.ensures.rest c.in_ok-statement.ensures.reads)
+    (into c.choose.ensures.same c.in_ok-choose.ensures.rest c.in_ok-statement-in-149.ensures.reads)
 
-pub statements::item-returns-in-155-clause-reads : goal.statements::item-returns-in-155-clause-reads
-statements::item-returns-in-155-clause-reads t c =
+pub statements::item-returns-in_ok-leave-in-155-clause-reads : goal.statements::item-returns-in_ok-leave-in-155-clause-reads
+statements::item-returns-in_ok-leave-in-155-clause-reads t c =
     subst (λ (d : Statements.ItemData). Reads (spelled.item d) c.args.reader.now c.leave.new.reader) (sym c.leave_item_of.ensures)
-    (into c.choose.ensures.same c.in_ok-choose.ensures.rest c.in_ok-leave.ensures.reads)
+    (into c.choose.ensures.same c.in_ok-choose.ensures.rest c.in_ok-leave-in-155.ensures.reads)
 
-pub statements::item-returns-in-122-clause-grouped : goal.statements::item-returns-in-122-clause-grouped
-statements::item-returns-in-122-clause-grouped t c = subst IsGroupedItem (sym c.declaration_item_of.ensures) c.in_ok-declaration.ensures.grouped
+pub statements::item-returns-in_ok-declaration-in-122-clause-grouped : goal.statements::item-returns-in_ok-declaration-in-122-clause-grouped
+statements::item-returns-in_ok-declaration-in-122-clause-grouped t c = subst IsGroupedItem (sym c.declaration_item_of.ensures) c.in_ok-declaration-in-122.ensures.grouped
 
-pub statements::item-returns-in-149-clause-grouped : goal.statements::item-returns-in-149-clause-grouped
-statements::item-returns-in-149-clause-grouped t c = subst IsGroupedItem (sym c.statement_item_of.ensures) c.in_ok-statement.ensures.grouped
+pub statements::item-returns-in_ok-statement-in-149-clause-grouped : goal.statements::item-returns-in_ok-statement-in-149-clause-grouped
+statements::item-returns-in_ok-statement-in-149-clause-grouped t c = subst IsGroupedItem (sym c.statement_item_of.ensures) c.in_ok-statement-in-149.ensures.grouped
 
-pub statements::item-returns-in-155-clause-grouped : goal.statements::item-returns-in-155-clause-grouped
-statements::item-returns-in-155-clause-grouped t c = subst IsGroupedItem (sym c.leave_item_of.ensures) c.in_ok-leave.ensures.grouped
+pub statements::item-returns-in_ok-leave-in-155-clause-grouped : goal.statements::item-returns-in_ok-leave-in-155-clause-grouped
+statements::item-returns-in_ok-leave-in-155-clause-grouped t c = subst IsGroupedItem (sym c.leave_item_of.ensures) c.in_ok-leave-in-155.ensures.grouped
 
 -- ---- statements
 
-pub statements::statement-returns-in-145-clause-reads : goal.statements::statement-returns-in-145-clause-reads
-statements::statement-returns-in-145-clause-reads t c =
+pub statements::statement-returns-in_ok-block-in-145-clause-reads : goal.statements::statement-returns-in_ok-block-in-145-clause-reads
+statements::statement-returns-in_ok-block-in-145-clause-reads t c =
     subst (λ (d : Statements.StatementData). Reads (spelled.statement d) c.args.reader.now c.block.new.reader) (sym c.block_statement_of.ensures)
-    (into c.choose.ensures.same c.in_ok-choose.ensures.rest c.in_ok-block.ensures.reads)
+    (into c.choose.ensures.same c.in_ok-choose.ensures.rest c.in_ok-block-in-145.ensures.reads)
 
-pub statements::statement-returns-in-145-clause-grouped : goal.statements::statement-returns-in-145-clause-grouped
-statements::statement-returns-in-145-clause-grouped t c = subst IsGroupedStatement (sym c.block_statement_of.ensures) c.in_ok-block.ensures.grouped
+pub statements::statement-returns-in_ok-block-in-145-clause-grouped : goal.statements::statement-returns-in_ok-block-in-145-clause-grouped
+statements::statement-returns-in_ok-block-in-145-clause-grouped t c = subst IsGroupedStatement (sym c.block_statement_of.ensures) c.in_ok-block-in-145.ensures.grouped
 
-pub statements::statement-returns-in-157-clause-reads : goal.statements::statement-returns-in-157-clause-reads
-statements::statement-returns-in-157-clause-reads t c =
+pub statements::statement-returns-in_ok-if_statement-in-157-clause-reads : goal.statements::statement-returns-in_ok-if_statement-in-157-clause-reads
+statements::statement-returns-in_ok-if_statement-in-157-clause-reads t c =
     subst (λ (d : Statements.StatementData). Reads (spelled.statement d) c.args.reader.now c.if_statement.new.reader) (sym c.if_statement_of.ensures)
-    (into c.choose.ensures.same c.in_ok-choose.ensures.rest c.in_ok-if_statement.ensures.reads)
+    (into c.choose.ensures.same c.in_ok-choose.ensures.rest c.in_ok-if_statement-in-157.ensures.reads)
 
-pub statements::statement-returns-in-157-clause-grouped : goal.statements::statement-returns-in-157-clause-grouped
-statements::statement-returns-in-157-clause-grouped t c = subst IsGroupedStatement (sym c.if_statement_of.ensures) c.in_ok-if_statement.ensures.grouped
+pub statements::statement-returns-in_ok-if_statement-in-157-clause-grouped : goal.statements::statement-returns-in_ok-if_statement-in-157-clause-grouped
+statements::statement-returns-in_ok-if_statement-in-157-clause-grouped t c = subst IsGroupedStatement (sym c.if_statement_of.ensures) c.in_ok-if_statement-in-157.ensures.grouped
 
 pub statements::while_statement-returns-clause-reads : goal.statements::while_statement-returns-clause-reads
 statements::while_statement-returns-clause-reads t c =

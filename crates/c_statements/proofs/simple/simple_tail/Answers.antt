@@ -15,28 +15,28 @@ returns-in-168-clause-reads c =
 pub returns-in_ok-postfix_of-in-43-clause-reads : goal.returns-in_ok-postfix_of-in-43-clause-reads
 returns-in_ok-postfix_of-in-43-clause-reads c =
     record {
-      behind = at T.Increment c.in_ok-place.place ∷ [];
-      is = ap spelled.simple c.in_ok-postfix_of.ensures;
-      reads = into c.choose.ensures.same c.in_ok-choose.ensures.rest c.in_ok-place.ensures.reads;
+      behind = at T.Increment c.in_ok-place-in-43.place ∷ [];
+      is = ap spelled.simple c.in_ok-postfix_of-in-43.ensures;
+      reads = into c.choose.ensures.same c.in_ok-choose.ensures.rest c.in_ok-place-in-43.ensures.reads;
     }
 
 pub returns-in_ok-postfix_of-in-44-clause-reads : goal.returns-in_ok-postfix_of-in-44-clause-reads
 returns-in_ok-postfix_of-in-44-clause-reads c =
     record {
-      behind = at T.Decrement c.in_ok-place.place ∷ [];
-      is = ap spelled.simple c.in_ok-postfix_of.ensures;
-      reads = into c.choose.ensures.same c.in_ok-choose.ensures.rest c.in_ok-place.ensures.reads;
+      behind = at T.Decrement c.in_ok-place-in-44.place ∷ [];
+      is = ap spelled.simple c.in_ok-postfix_of-in-44.ensures;
+      reads = into c.choose.ensures.same c.in_ok-choose.ensures.rest c.in_ok-place-in-44.ensures.reads;
     }
 
 pub returns-in_ok-simple_expression_of-in-65535-clause-reads : goal.returns-in_ok-simple_expression_of-in-65535-clause-reads
 returns-in_ok-simple_expression_of-in-65535-clause-reads c =
-    record { behind = []; is = ap spelled.simple c.in_ok-simple_expression_of.ensures ∙ sym (append-nil _); reads = record { spells = sym c.in_ok-choose.ensures.rest } }
+    record { behind = []; is = ap spelled.simple c.in_ok-simple_expression_of-in-65535.ensures ∙ sym (append-nil _); reads = record { spells = sym c.in_ok-choose.ensures.rest } }
 
 pub returns-in_ok-postfix_of-in-43-clause-grouped : goal.returns-in_ok-postfix_of-in-43-clause-grouped
-returns-in_ok-postfix_of-in-43-clause-grouped c = subst IsGroupedSimple (sym c.in_ok-postfix_of.ensures) c.requires.operand
+returns-in_ok-postfix_of-in-43-clause-grouped c = subst IsGroupedSimple (sym c.in_ok-postfix_of-in-43.ensures) c.requires.operand
 
 pub returns-in_ok-postfix_of-in-44-clause-grouped : goal.returns-in_ok-postfix_of-in-44-clause-grouped
-returns-in_ok-postfix_of-in-44-clause-grouped c = subst IsGroupedSimple (sym c.in_ok-postfix_of.ensures) c.requires.operand
+returns-in_ok-postfix_of-in-44-clause-grouped c = subst IsGroupedSimple (sym c.in_ok-postfix_of-in-44.ensures) c.requires.operand
 
 pub returns-in_ok-simple_expression_of-in-65535-clause-grouped : goal.returns-in_ok-simple_expression_of-in-65535-clause-grouped
-returns-in_ok-simple_expression_of-in-65535-clause-grouped c = subst IsGroupedSimple (sym c.in_ok-simple_expression_of.ensures) c.requires.operand
+returns-in_ok-simple_expression_of-in-65535-clause-grouped c = subst IsGroupedSimple (sym c.in_ok-simple_expression_of-in-65535.ensures) c.requires.operand
