@@ -37,6 +37,11 @@ pub deep_where : (text : List ℕ) (tokens : List Token) (stop : ParseStop) (k :
 unfolding Stops
 deep_where text tokens stop k is stops = subst (λ (s : ParseStop). IsStop PRODUCTIONS (classes_of tokens) s) is stops
 
+pub deep_within : (text : List ℕ) (tokens : List Token) (stop : ParseStop) (k : ℕ) → stop ≡ Deep k → Stops (record { text = text; tokens = tokens }) stop
+    → k < length tokens
+deep_within text tokens stop k is stops =
+    let deep = deep_where text tokens stop k is stops in rw (length-map tokens (λ t. t.class)) at deep.in_range
+
 pub found_at : (tokens : List Token) (k : ℕ) (other : Token) → k < length (classes_of tokens) → slice_get tokens k ≡ Some (get_or tokens k other)
 found_at tokens k other lt = slice_get-get_or tokens k other (rw (length-map tokens (λ t. t.class)) at lt)
 

@@ -1,8 +1,7 @@
-use Rattle.std.proofs.Common.{◌∙◌, get_or, ap, inl, inr, arith}
-use Rattle.c_reader.specs.States.{Source, Stops}
+use Rattle.std.proofs.Common.{◌∙◌, ◌<◌, length, get_or, ap, inl, inr, rules}
 use Rattle.ll_core.specs.declared.parser.ParseStop.TheVariants.{At, Deep}
 use Rattle.c_grammar.specs.Syntax.{classes_of, refused_at}
-use Rattle.c_grammar.proofs.Stops.{found_at, copied_at, left_where, deep_where, stops_by_syntax}
+use Rattle.c_grammar.proofs.Stops.{found_at, copied_at, left_where, deep_where, deep_within, stops_by_syntax}
 use Rattle.c_grammar.proofs.syntax.tree.Goals as goal
 
 pub returns-in-Err-At-clause-refused : goal.returns-in-Err-At-clause-refused
@@ -24,3 +23,11 @@ returns-in-Err-Deep-clause-refused c =
       found = found_at c.args.tokens.now c.in-Err-Deep.k _ deep.in_range;
       is = is;
     }))
+
+pub bounds-tokens-k : goal.bounds-tokens-k
+bounds-tokens-k c = deep_within c.args.text.now c.args.tokens.now _ c.in-Err-Deep.k c.in-Err-Deep.field-0-is c.in-Err-Deep.ensures.stop
+
+pub offset_bounds-tokens-k : goal.offset_bounds-tokens-k
+offset_bounds-tokens-k c =
+    let h : c.in-Err-Deep.k < length c.args.tokens.now = deep_within c.args.text.now c.args.tokens.now _ c.in-Err-Deep.k c.in-Err-Deep.field-0-is c.in-Err-Deep.ensures.stop in
+    search rules
