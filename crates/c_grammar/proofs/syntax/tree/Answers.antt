@@ -1,6 +1,5 @@
 use Rattle.std.proofs.Common.{◌∙◌, ◌<◌, length, get_or, ap, inl, inr, rules}
-use Rattle.ll_core.specs.declared.parser.ParseStop.TheVariants.{At, Deep}
-use Rattle.c_grammar.specs.Syntax.{classes_of, refused_at}
+use Rattle.c_grammar.specs.Syntax.{refused_at}
 use Rattle.c_grammar.proofs.Stops.{found_at, copied_at, left_where, deep_where, deep_within, stops_by_syntax}
 use Rattle.c_grammar.proofs.syntax.tree.Goals as goal
 
