@@ -42,4 +42,4 @@ returns-clause-report c =
       parsed = parsed_of c.args.text.now _ (c.deref.ensures.value ∙ c.in_ok-tokens.ensures.exact.1) c.in_ok-tree.ensures.derived;
       program = c.in_ok-program.ensures.ok;
     } in
-    (_, (supported, c.in_ok-report.ensures))
+    (_, supported, c.in_ok-report.ensures)
