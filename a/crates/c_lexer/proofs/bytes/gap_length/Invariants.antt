@@ -1,0 +1,7 @@
+use Rattle.std.proofs.Common.{◌≡◌, ◌+◌, drop}
+use Rattle.std.specs.List.{prefix_len}
+use Rattle.c_lexer.specs.Bytes.{is_gap}
+use Rattle.c_lexer.proofs.bytes.gap_length.Given as goal
+
+abbrev pub invariant-loop-i : goal.invariant-loop-i
+invariant-loop-i l = l.i + prefix_len is_gap (drop l.i l.bytes) ≡ prefix_len is_gap l.bytes

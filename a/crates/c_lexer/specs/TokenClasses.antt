@@ -1,0 +1,324 @@
+-- The words that C and the library have and the punctuators, and what each is to the grammar (C11 6.4.1, 6.4.2, 6.4.6).
+use Rattle.std.specs.Prelude.{ℕ, List, [], ◌∷◌, map, codes, if◌then◌else◌}
+use Rattle.std.specs.Str.{bytes_eq}
+use Rattle.c_lexer.specs.declared.token_class.TokenClass.{TokenClass}
+use Rattle.c_lexer.specs.declared.token_class.TokenClass.TheVariants.{Identifier, TypedefName, LibraryType, NamedConstruct, Constant, Static, Extern, Inline, ThreadLocal, Const, Volatile, Atomic, Typedef, Void, Char, Short, Int, Long, Signed, Unsigned, Bool, Struct, Enum, If, Else, While, Do, For, Switch, Case, Default, Break, Continue, Return, Sizeof, LeftBracket, RightBracket, LeftParenthesis, RightParenthesis, LeftBrace, RightBrace, Dot, Arrow, Increment, Decrement, Ampersand, Asterisk, Plus, Minus, Tilde, Exclamation, Slash, Percent, ShiftLeft, ShiftRight, Less, Greater, LessEqual, GreaterEqual, Equal, NotEqual, Caret, Bar, And, Or, Question, Colon, Semicolon, Assign, MultiplyAssign, DivideAssign, RemainderAssign, AddAssign, SubtractAssign, ShiftLeftAssign, ShiftRightAssign, AndAssign, XorAssign, OrAssign, Comma}
+
+-- each with its class, in the order of their bytes; a constant or a call of the library is an identifier
+unfoldable pub class_rows : List (List ℕ × TokenClass)
+class_rows =
+    (codes "!", Exclamation) ∷
+    (codes "!=", NotEqual) ∷
+    (codes "%", Percent) ∷
+    (codes "%=", RemainderAssign) ∷
+    (codes "&", Ampersand) ∷
+    (codes "&&", And) ∷
+    (codes "&=", AndAssign) ∷
+    (codes "(", LeftParenthesis) ∷
+    (codes ")", RightParenthesis) ∷
+    (codes "*", Asterisk) ∷
+    (codes "*=", MultiplyAssign) ∷
+    (codes "+", Plus) ∷
+    (codes "++", Increment) ∷
+    (codes "+=", AddAssign) ∷
+    (codes ",", Comma) ∷
+    (codes "-", Minus) ∷
+    (codes "--", Decrement) ∷
+    (codes "-=", SubtractAssign) ∷
+    (codes "->", Arrow) ∷
+    (codes ".", Dot) ∷
+    (codes "...", NamedConstruct) ∷
+    (codes "/", Slash) ∷
+    (codes "/=", DivideAssign) ∷
+    (codes ":", Colon) ∷
+    (codes ";", Semicolon) ∷
+    (codes "<", Less) ∷
+    (codes "<<", ShiftLeft) ∷
+    (codes "<<=", ShiftLeftAssign) ∷
+    (codes "<=", LessEqual) ∷
+    (codes "=", Assign) ∷
+    (codes "==", Equal) ∷
+    (codes ">", Greater) ∷
+    (codes ">=", GreaterEqual) ∷
+    (codes ">>", ShiftRight) ∷
+    (codes ">>=", ShiftRightAssign) ∷
+    (codes "?", Question) ∷
+    (codes "ATOMIC_VAR_INIT", NamedConstruct) ∷
+    (codes "INT16_MAX", Identifier) ∷
+    (codes "INT16_MIN", Identifier) ∷
+    (codes "INT32_MAX", Identifier) ∷
+    (codes "INT32_MIN", Identifier) ∷
+    (codes "INT64_MAX", Identifier) ∷
+    (codes "INT64_MIN", Identifier) ∷
+    (codes "INT8_MAX", Identifier) ∷
+    (codes "INT8_MIN", Identifier) ∷
+    (codes "NULL", Identifier) ∷
+    (codes "ONCE_FLAG_INIT", NamedConstruct) ∷
+    (codes "TIME_UTC", Identifier) ∷
+    (codes "UINT16_MAX", Identifier) ∷
+    (codes "UINT32_MAX", Identifier) ∷
+    (codes "UINT64_MAX", Identifier) ∷
+    (codes "UINT8_MAX", Identifier) ∷
+    (codes "[", LeftBracket) ∷
+    (codes "]", RightBracket) ∷
+    (codes "^", Caret) ∷
+    (codes "^=", XorAssign) ∷
+    (codes "_Alignas", NamedConstruct) ∷
+    (codes "_Alignof", NamedConstruct) ∷
+    (codes "_Atomic", Atomic) ∷
+    (codes "_Bool", Bool) ∷
+    (codes "_Complex", NamedConstruct) ∷
+    (codes "_Generic", NamedConstruct) ∷
+    (codes "_Imaginary", NamedConstruct) ∷
+    (codes "_Noreturn", NamedConstruct) ∷
+    (codes "_Static_assert", NamedConstruct) ∷
+    (codes "_Thread_local", ThreadLocal) ∷
+    (codes "__asm", NamedConstruct) ∷
+    (codes "__asm__", NamedConstruct) ∷
+    (codes "__attribute__", NamedConstruct) ∷
+    (codes "__extension__", NamedConstruct) ∷
+    (codes "asm", NamedConstruct) ∷
+    (codes "atomic_bool", LibraryType) ∷
+    (codes "atomic_char", LibraryType) ∷
+    (codes "atomic_compare_exchange_strong", Identifier) ∷
+    (codes "atomic_compare_exchange_strong_explicit", Identifier) ∷
+    (codes "atomic_compare_exchange_weak", Identifier) ∷
+    (codes "atomic_compare_exchange_weak_explicit", Identifier) ∷
+    (codes "atomic_exchange", Identifier) ∷
+    (codes "atomic_exchange_explicit", Identifier) ∷
+    (codes "atomic_fetch_add", Identifier) ∷
+    (codes "atomic_fetch_add_explicit", Identifier) ∷
+    (codes "atomic_fetch_and", Identifier) ∷
+    (codes "atomic_fetch_and_explicit", Identifier) ∷
+    (codes "atomic_fetch_or", Identifier) ∷
+    (codes "atomic_fetch_or_explicit", Identifier) ∷
+    (codes "atomic_fetch_sub", Identifier) ∷
+    (codes "atomic_fetch_sub_explicit", Identifier) ∷
+    (codes "atomic_fetch_xor", Identifier) ∷
+    (codes "atomic_fetch_xor_explicit", Identifier) ∷
+    (codes "atomic_flag", NamedConstruct) ∷
+    (codes "atomic_flag_clear", NamedConstruct) ∷
+    (codes "atomic_flag_test_and_set", NamedConstruct) ∷
+    (codes "atomic_init", Identifier) ∷
+    (codes "atomic_int", LibraryType) ∷
+    (codes "atomic_is_lock_free", NamedConstruct) ∷
+    (codes "atomic_llong", LibraryType) ∷
+    (codes "atomic_load", Identifier) ∷
+    (codes "atomic_load_explicit", Identifier) ∷
+    (codes "atomic_long", LibraryType) ∷
+    (codes "atomic_schar", LibraryType) ∷
+    (codes "atomic_short", LibraryType) ∷
+    (codes "atomic_signal_fence", NamedConstruct) ∷
+    (codes "atomic_store", Identifier) ∷
+    (codes "atomic_store_explicit", Identifier) ∷
+    (codes "atomic_thread_fence", NamedConstruct) ∷
+    (codes "atomic_uchar", LibraryType) ∷
+    (codes "atomic_uint", LibraryType) ∷
+    (codes "atomic_ullong", LibraryType) ∷
+    (codes "atomic_ulong", LibraryType) ∷
+    (codes "atomic_ushort", LibraryType) ∷
+    (codes "auto", NamedConstruct) ∷
+    (codes "bool", Bool) ∷
+    (codes "break", Break) ∷
+    (codes "call_once", NamedConstruct) ∷
+    (codes "calloc", NamedConstruct) ∷
+    (codes "case", Case) ∷
+    (codes "char", Char) ∷
+    (codes "cnd_broadcast", Identifier) ∷
+    (codes "cnd_destroy", Identifier) ∷
+    (codes "cnd_init", Identifier) ∷
+    (codes "cnd_signal", Identifier) ∷
+    (codes "cnd_t", LibraryType) ∷
+    (codes "cnd_timedwait", Identifier) ∷
+    (codes "cnd_wait", Identifier) ∷
+    (codes "const", Const) ∷
+    (codes "continue", Continue) ∷
+    (codes "default", Default) ∷
+    (codes "do", Do) ∷
+    (codes "double", NamedConstruct) ∷
+    (codes "else", Else) ∷
+    (codes "enum", Enum) ∷
+    (codes "extern", Extern) ∷
+    (codes "false", Identifier) ∷
+    (codes "float", NamedConstruct) ∷
+    (codes "for", For) ∷
+    (codes "free", NamedConstruct) ∷
+    (codes "goto", NamedConstruct) ∷
+    (codes "if", If) ∷
+    (codes "inline", Inline) ∷
+    (codes "int", Int) ∷
+    (codes "int16_t", LibraryType) ∷
+    (codes "int32_t", LibraryType) ∷
+    (codes "int64_t", LibraryType) ∷
+    (codes "int8_t", LibraryType) ∷
+    (codes "kill_dependency", NamedConstruct) ∷
+    (codes "long", Long) ∷
+    (codes "longjmp", NamedConstruct) ∷
+    (codes "malloc", NamedConstruct) ∷
+    (codes "memory_order_acq_rel", Identifier) ∷
+    (codes "memory_order_acquire", Identifier) ∷
+    (codes "memory_order_consume", Identifier) ∷
+    (codes "memory_order_relaxed", Identifier) ∷
+    (codes "memory_order_release", Identifier) ∷
+    (codes "memory_order_seq_cst", Identifier) ∷
+    (codes "mtx_destroy", Identifier) ∷
+    (codes "mtx_init", Identifier) ∷
+    (codes "mtx_lock", Identifier) ∷
+    (codes "mtx_plain", Identifier) ∷
+    (codes "mtx_recursive", Identifier) ∷
+    (codes "mtx_t", LibraryType) ∷
+    (codes "mtx_timed", Identifier) ∷
+    (codes "mtx_timedlock", Identifier) ∷
+    (codes "mtx_trylock", Identifier) ∷
+    (codes "mtx_unlock", Identifier) ∷
+    (codes "offsetof", NamedConstruct) ∷
+    (codes "once_flag", NamedConstruct) ∷
+    (codes "ptrdiff_t", LibraryType) ∷
+    (codes "realloc", NamedConstruct) ∷
+    (codes "register", NamedConstruct) ∷
+    (codes "restrict", NamedConstruct) ∷
+    (codes "return", Return) ∷
+    (codes "setjmp", NamedConstruct) ∷
+    (codes "short", Short) ∷
+    (codes "signal", NamedConstruct) ∷
+    (codes "signed", Signed) ∷
+    (codes "size_t", LibraryType) ∷
+    (codes "sizeof", Sizeof) ∷
+    (codes "static", Static) ∷
+    (codes "static_assert", NamedConstruct) ∷
+    (codes "struct", Struct) ∷
+    (codes "switch", Switch) ∷
+    (codes "thrd_busy", Identifier) ∷
+    (codes "thrd_create", Identifier) ∷
+    (codes "thrd_current", NamedConstruct) ∷
+    (codes "thrd_detach", Identifier) ∷
+    (codes "thrd_equal", NamedConstruct) ∷
+    (codes "thrd_error", Identifier) ∷
+    (codes "thrd_exit", Identifier) ∷
+    (codes "thrd_join", Identifier) ∷
+    (codes "thrd_nomem", Identifier) ∷
+    (codes "thrd_sleep", Identifier) ∷
+    (codes "thrd_success", Identifier) ∷
+    (codes "thrd_t", LibraryType) ∷
+    (codes "thrd_timedout", Identifier) ∷
+    (codes "thrd_yield", Identifier) ∷
+    (codes "thread_local", ThreadLocal) ∷
+    (codes "timespec_get", Identifier) ∷
+    (codes "true", Identifier) ∷
+    (codes "tss_create", Identifier) ∷
+    (codes "tss_delete", Identifier) ∷
+    (codes "tss_get", Identifier) ∷
+    (codes "tss_set", Identifier) ∷
+    (codes "tss_t", LibraryType) ∷
+    (codes "typedef", Typedef) ∷
+    (codes "uint16_t", LibraryType) ∷
+    (codes "uint32_t", LibraryType) ∷
+    (codes "uint64_t", LibraryType) ∷
+    (codes "uint8_t", LibraryType) ∷
+    (codes "union", NamedConstruct) ∷
+    (codes "unsigned", Unsigned) ∷
+    (codes "void", Void) ∷
+    (codes "volatile", Volatile) ∷
+    (codes "while", While) ∷
+    (codes "{", LeftBrace) ∷
+    (codes "|", Bar) ∷
+    (codes "|=", OrAssign) ∷
+    (codes "||", Or) ∷
+    (codes "}", RightBrace) ∷
+    (codes "~", Tilde) ∷
+    []
+
+abbrev pub class_in : List (List ℕ × TokenClass) → List ℕ → TokenClass
+class_in [] text = Identifier
+class_in (row ∷ rows) text = if bytes_eq row.0 text then row.1 else class_in rows text
+
+-- the class of a word or punctuator; what is not listed is an identifier
+unfoldable pub class_of : List ℕ → TokenClass
+class_of text = class_in class_rows text
+
+-- the number of a class
+abbrev pub class_number : TokenClass → ℕ
+class_number Identifier = 0
+class_number TypedefName = 1
+class_number LibraryType = 2
+class_number NamedConstruct = 3
+class_number Constant = 4
+class_number Static = 5
+class_number Extern = 6
+class_number Inline = 7
+class_number ThreadLocal = 8
+class_number Const = 9
+class_number Volatile = 10
+class_number Atomic = 11
+class_number Typedef = 12
+class_number Void = 13
+class_number Char = 14
+class_number Short = 15
+class_number Int = 16
+class_number Long = 17
+class_number Signed = 18
+class_number Unsigned = 19
+class_number Bool = 20
+class_number Struct = 21
+class_number Enum = 22
+class_number If = 23
+class_number Else = 24
+class_number While = 25
+class_number Do = 26
+class_number For = 27
+class_number Switch = 28
+class_number Case = 29
+class_number Default = 30
+class_number Break = 31
+class_number Continue = 32
+class_number Return = 33
+class_number Sizeof = 34
+class_number LeftBracket = 35
+class_number RightBracket = 36
+class_number LeftParenthesis = 37
+class_number RightParenthesis = 38
+class_number LeftBrace = 39
+class_number RightBrace = 40
+class_number Dot = 41
+class_number Arrow = 42
+class_number Increment = 43
+class_number Decrement = 44
+class_number Ampersand = 45
+class_number Asterisk = 46
+class_number Plus = 47
+class_number Minus = 48
+class_number Tilde = 49
+class_number Exclamation = 50
+class_number Slash = 51
+class_number Percent = 52
+class_number ShiftLeft = 53
+class_number ShiftRight = 54
+class_number Less = 55
+class_number Greater = 56
+class_number LessEqual = 57
+class_number GreaterEqual = 58
+class_number Equal = 59
+class_number NotEqual = 60
+class_number Caret = 61
+class_number Bar = 62
+class_number And = 63
+class_number Or = 64
+class_number Question = 65
+class_number Colon = 66
+class_number Semicolon = 67
+class_number Assign = 68
+class_number MultiplyAssign = 69
+class_number DivideAssign = 70
+class_number RemainderAssign = 71
+class_number AddAssign = 72
+class_number SubtractAssign = 73
+class_number ShiftLeftAssign = 74
+class_number ShiftRightAssign = 75
+class_number AndAssign = 76
+class_number XorAssign = 77
+class_number OrAssign = 78
+class_number Comma = 79
+
+-- the rows with the numbers of their classes
+unfoldable pub number_rows : List (List ℕ × ℕ)
+number_rows = map (λ (row : List ℕ × TokenClass). (row.0, class_number row.1)) class_rows

@@ -1,0 +1,9 @@
+pub mod GroupedStatements
+pub mod Grouping
+pub mod Pieces
+pub mod Readers
+pub mod Signs
+pub mod SpelledExpressions
+pub mod SpelledExternals
+pub mod SpelledStatements
+pub mod States

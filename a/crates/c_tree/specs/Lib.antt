@@ -1,0 +1,4 @@
+pub mod Expressions
+pub mod Views
+pub mod Statements
+pub mod StatementViews

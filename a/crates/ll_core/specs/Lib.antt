@@ -1,0 +1,16 @@
+pub mod Answers
+pub mod Checks
+pub mod Grammars
+pub mod Keys
+pub mod ListedSets
+pub mod Machines
+pub mod Members
+pub mod Places
+pub mod Predictions
+pub mod Relations
+pub mod Sentences
+pub mod Sets
+pub mod Stacks
+pub mod Tables
+pub mod Trees
+pub mod Standing

@@ -1,5 +1,0 @@
-pub mod Roles
-pub mod Types
-pub mod Expressions
-pub mod Statements
-pub mod Units

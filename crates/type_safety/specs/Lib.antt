@@ -1,4 +1,0 @@
-pub mod Fitting
-pub mod Causes
-pub mod ActionCauses
-pub mod Laws

@@ -1,0 +1,12 @@
+mod Spelled
+mod Advance
+mod Completion
+mod Complete
+mod Judged
+mod Verdict
+mod Depth
+mod Silence
+mod Turns
+mod Exclusion
+mod Phases
+mod Ordered

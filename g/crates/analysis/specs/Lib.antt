@@ -1,0 +1,11 @@
+pub mod Form
+pub mod Reading
+pub mod Faults
+pub mod Depths
+pub mod LeastDepths
+pub mod Findings
+pub mod State
+pub mod Step
+pub mod Runs
+pub mod Samples
+pub mod Laws

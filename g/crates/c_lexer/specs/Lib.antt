@@ -1,0 +1,15 @@
+pub mod Bytes
+pub mod Numbers
+pub mod Punctuators
+pub mod Positions
+pub mod Slices
+pub mod Tokens
+pub mod Limits
+pub mod Scanning
+pub mod TypedefNames
+pub mod Identifiers
+pub mod Lines
+pub mod Pieces
+pub mod TokenClasses
+pub mod Integers
+pub mod Literals

@@ -1,0 +1,6 @@
+//! Stub.
+#![tactic(auto)]
+
+mod translation_unit;
+
+pub use translation_unit::tree;

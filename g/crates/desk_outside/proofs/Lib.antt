@@ -1,0 +1,3 @@
+mod FirstBytes
+mod FirstPlace
+mod Piece

@@ -1,0 +1,3 @@
+pub mod BitLemmas
+mod KeyLemmas
+pub mod WordLemmas

@@ -1,0 +1,13 @@
+pub mod Bits
+pub mod Deviations
+pub mod Guidelines
+pub mod Keys
+pub mod Kinds
+pub mod Lines
+pub mod Names
+pub mod Orders
+pub mod Places
+pub mod Reports
+pub mod Rows
+pub mod Tables
+pub mod Words
