@@ -1,0 +1,3 @@
+mod Floats
+mod Lists
+mod Parsed

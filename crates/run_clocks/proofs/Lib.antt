@@ -1,0 +1,5 @@
+pub mod Accessing
+pub mod Moments
+pub mod Breaking
+pub mod Telling
+pub mod Hearing
