@@ -1,0 +1,4 @@
+pub mod Things
+pub mod Faults
+pub mod Names
+pub mod Readings
