@@ -1,4 +1,4 @@
-ghost use Rattle.std.specs.Prelude.{◌≡◌, ◌++◌, if◌then◌else◌, [], OnOk, IfOk};
+ghost use Rattle.std.specs.Prelude.{◌≡◌, ◌++◌, if◌then◌else◌, [], slice_get, OnOk, IfOk};
 ghost use Rattle.c_scope.specs.Faults.{is_function_by, is_object_by, is_static, counts, place_by, counted, limit_faults};
 
 use crate::things::is_first;
@@ -73,6 +73,19 @@ fn add_counted(places: &mut Vec<Place>, limit: Limit, seen: Seen) -> Result<(), 
     }
 }
 
+/// Where the thing stands that passes the limit.
+fn place_past(
+    alloc: Global,
+    limit: Limit,
+    most: usize,
+    all: &[Seen],
+) -> Result<Option<Place>, AllocError>
+    ensures { IfOk result (λ place. place ≡ slice_get (counted limit all.now) most) }
+{
+    let places = counted(alloc, limit, all)?;
+    Ok(places.get(most).copied())
+}
+
 /// The thing that passes the limit.
 pub(crate) fn add_limit(
     alloc: Global,
@@ -83,10 +96,9 @@ pub(crate) fn add_limit(
 ) -> Result<(), AllocError>
     ensures { OnOk result (faults.new.items ≡ faults.old.items ++ limit_faults limit most all.now) }
 {
-    let places = counted(alloc, limit, all)?;
-    if let Some(place) = places.get(most) {
+    if let Some(place) = place_past(alloc, limit, most, all)? {
         faults.push(Fault {
-            place: *place,
+            place,
             code: 13,
             name: FaultName::Limit(limit),
         })?;

@@ -1,4 +1,7 @@
-use crate::trees::{answer, function, local, object, program_line, tree};
+use crate::trees::{
+    answer, function, function_of, local, main_function, nested, object, parameter, program_line,
+    tree,
+};
 use c_names::{Kind, StorageDuration};
 use c_scope::declare;
 use misra_base::Place;
@@ -95,6 +98,45 @@ fn names_of_the_library_are_declared_before_the_text(rt: HostRuntime) -> Result<
             assert_eq!(rt; found, Some((Kind::Library, 0)));
         }
         Err(_stop) => assert!(rt; false, "the text is refused"),
+    }
+    Ok(())
+}
+
+#[test]
+fn a_parameter_is_declared_in_the_scope_of_its_body(rt: HostRuntime) -> Result<(), Fail> {
+    let alloc = rt.alloc();
+    for (is_nested, line) in [(false, "refused U10 1:26 a\n"), (true, "accepted\n")] {
+        let mut items = Vec::new(alloc);
+        items.push(local(alloc, 1, 26, "a")?)?;
+        if is_nested {
+            let inner = items;
+            items = Vec::new(alloc);
+            items.push(nested(1, inner))?;
+        }
+        let parameter = parameter(alloc, 1, "a", false)?;
+        let mut externals = Vec::new(alloc);
+        externals.push(function_of(alloc, 1, "f", parameter, Some(items))?)?;
+        externals.push(main_function(alloc, 2)?)?;
+        let tree = tree(externals);
+        assert_eq!(rt; program_line(alloc, &tree)?.as_slice(), line.as_bytes());
+    }
+    Ok(())
+}
+
+#[test]
+fn an_inner_object_is_not_seen_behind_its_block(rt: HostRuntime) -> Result<(), Fail> {
+    let alloc = rt.alloc();
+    for (outer, line) in [("x", "accepted\n"), ("y", "refused U9 2:50 x\n")] {
+        let mut inner = Vec::new(alloc);
+        inner.push(local(alloc, 2, 22, "x")?)?;
+        let mut items = Vec::new(alloc);
+        items.push(nested(2, inner))?;
+        items.push(answer(alloc, 2, 50, "x")?)?;
+        let mut externals = Vec::new(alloc);
+        externals.push(object(alloc, 1, outer)?)?;
+        externals.push(function(alloc, 2, "main", Some(items))?)?;
+        let tree = tree(externals);
+        assert_eq!(rt; program_line(alloc, &tree)?.as_slice(), line.as_bytes());
     }
     Ok(())
 }

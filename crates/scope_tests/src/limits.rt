@@ -11,7 +11,10 @@ fn a_text_without_a_main_is_refused_at_its_end_as_a_program_alone(
         program_line(alloc, &empty)?.as_slice(),
         b"refused U12 9999:1 main\n".as_slice()
     );
-    assert_eq!(rt; unit_line(alloc, &empty)?.as_slice(), b"accepted\n".as_slice());
+    assert_eq!(rt;
+        unit_line(alloc, &empty)?.as_slice(),
+        b"accepted\n".as_slice()
+    );
     Ok(())
 }
 

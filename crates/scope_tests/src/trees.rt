@@ -4,7 +4,7 @@ use c_names::Names;
 use c_scope::{declare, declare_unit};
 use c_tree::{
     Block, Declaration, Declarator, Expression, External, Function, InitDeclarator, Item, Keyword,
-    Leave, Parameter, Specifier, Tree, Word,
+    Leave, Parameter, Pointer, Postfix, Simple, Specifier, Statement, Tree, TypeDefinition, Word,
 };
 use misra_base::{CheckStop, Name, Place, refusal_line};
 use std::alloc::{AllocError, Global};
@@ -29,12 +29,13 @@ fn keyword(
     Ok(specifiers)
 }
 
-/// `int name;` with its name in column 5 of a line that begins with it, and in others behind that.
+/// `specifiers name;` with the name in the given column.
 fn declaration(
     alloc: Global,
     line: u32,
     column: u32,
     name: &str,
+    specifiers: Vec<Specifier>,
 ) -> Result<Declaration, AllocError> {
     let mut declarators = Vec::new(alloc);
     declarators.push(InitDeclarator {
@@ -46,19 +47,76 @@ fn declaration(
         initialization: None,
     })?;
     Ok(Declaration {
-        specifiers: keyword(alloc, line, 1, "int", Keyword::Int)?,
+        specifiers,
         declarators,
     })
 }
 
 /// `int name;`
 pub(crate) fn object(alloc: Global, line: u32, name: &str) -> Result<External, AllocError> {
-    Ok(External::Declaration(declaration(alloc, line, 5, name)?))
+    let specifiers = keyword(alloc, line, 1, "int", Keyword::Int)?;
+    Ok(External::Declaration(declaration(alloc, line, 5, name, specifiers)?))
+}
+
+/// `extern int name;`
+pub(crate) fn extern_object(alloc: Global, line: u32, name: &str) -> Result<External, AllocError> {
+    let mut specifiers = keyword(alloc, line, 1, "extern", Keyword::Extern)?;
+    let int = word(alloc, line, 8, "int")?;
+    specifiers.push(Specifier::Keyword {
+        word: int,
+        keyword: Keyword::Int,
+    })?;
+    Ok(External::Declaration(declaration(alloc, line, 12, name, specifiers)?))
+}
+
+/// `struct tag;` with the tag in column 8.
+pub(crate) fn structure(alloc: Global, line: u32, tag: &str) -> Result<External, AllocError> {
+    let mut specifiers = Vec::new(alloc);
+    specifiers.push(Specifier::StructReference {
+        place: Place { line, column: 1 },
+        tag: word(alloc, line, 8, tag)?,
+    })?;
+    Ok(External::Declaration(Declaration {
+        specifiers,
+        declarators: Vec::new(alloc),
+    }))
+}
+
+/// `typedef int name;`
+pub(crate) fn typedef(alloc: Global, line: u32, name: &str) -> Result<External, AllocError> {
+    Ok(External::TypeDefinition(TypeDefinition {
+        place: Place { line, column: 1 },
+        specifiers: keyword(alloc, line, 9, "int", Keyword::Int)?,
+        pointers: Vec::new(alloc),
+        name: word(alloc, line, 13, name)?,
+    }))
 }
 
 /// `int name;` in a block, with the name in the given column.
 pub(crate) fn local(alloc: Global, line: u32, column: u32, name: &str) -> Result<Item, AllocError> {
-    Ok(Item::Declaration(declaration(alloc, line, column, name)?))
+    let specifiers = keyword(alloc, line, 1, "int", Keyword::Int)?;
+    Ok(Item::Declaration(declaration(alloc, line, column, name, specifiers)?))
+}
+
+/// `{ items }` in a block.
+pub(crate) fn nested(line: u32, items: Vec<Item>) -> Item {
+    Item::Statement(Statement::Block(block(line, items)))
+}
+
+/// `name();` with the name in the given column.
+pub(crate) fn call(alloc: Global, line: u32, column: u32, name: &str) -> Result<Item, AllocError> {
+    let callee = Expression::Identifier(word(alloc, line, column, name)?);
+    let mut postfixes = Vec::new(alloc);
+    postfixes.push(Postfix::Call {
+        place: Place { line, column: 40 },
+        arguments: Vec::new(alloc),
+    })?;
+    let value = Expression::Postfix {
+        operand: Box::new(alloc, callee)?,
+        postfixes,
+    };
+    let statement = Simple::Expression(Box::new(alloc, value)?);
+    Ok(Item::Statement(Statement::Simple(statement)))
 }
 
 /// `return name;` with the name in the given column.
@@ -75,26 +133,58 @@ pub(crate) fn answer(
     }))
 }
 
-/// `int name(void)` with its body, or without one.
-pub(crate) fn function(
-    alloc: Global,
-    line: u32,
-    name: &str,
-    body: Option<Vec<Item>>,
-) -> Result<External, AllocError> {
-    let mut parameters = Vec::new(alloc);
-    parameters.push(Parameter {
+fn block(line: u32, items: Vec<Item>) -> Block {
+    Block {
+        place: Place { line, column: 16 },
+        items,
+        close: Place { line, column: 99 },
+    }
+}
+
+/// `void` alone as a parameter.
+fn nothing(alloc: Global, line: u32) -> Result<Parameter, AllocError> {
+    Ok(Parameter {
         specifiers: keyword(alloc, line, 10, "void", Keyword::Void)?,
         pointers: Vec::new(alloc),
         name: None,
         bound: None,
-    })?;
+    })
+}
+
+/// `int name`, or `int *name`, as a parameter.
+pub(crate) fn parameter(
+    alloc: Global,
+    line: u32,
+    name: &str,
+    is_pointer: bool,
+) -> Result<Parameter, AllocError> {
+    let mut pointers = Vec::new(alloc);
+    if is_pointer {
+        pointers.push(Pointer {
+            place: Place { line, column: 14 },
+            qualifiers: Vec::new(alloc),
+        })?;
+    }
+    Ok(Parameter {
+        specifiers: keyword(alloc, line, 10, "int", Keyword::Int)?,
+        pointers,
+        name: Some(word(alloc, line, 15, name)?),
+        bound: None,
+    })
+}
+
+/// `int name(parameter)` with its body, or without one.
+pub(crate) fn function_of(
+    alloc: Global,
+    line: u32,
+    name: &str,
+    parameter: Parameter,
+    body: Option<Vec<Item>>,
+) -> Result<External, AllocError> {
+    let mut parameters = Vec::new(alloc);
+    parameters.push(parameter)?;
     let body = match body {
-        Some(items) => Some(Block {
-            place: Place { line, column: 16 },
-            items,
-            close: Place { line, column: 99 },
-        }),
+        Some(items) => Some(block(line, items)),
         None => None,
     };
     Ok(External::Function(Function {
@@ -104,6 +194,17 @@ pub(crate) fn function(
         parameters,
         body,
     }))
+}
+
+/// `int name(void)` with its body, or without one.
+pub(crate) fn function(
+    alloc: Global,
+    line: u32,
+    name: &str,
+    body: Option<Vec<Item>>,
+) -> Result<External, AllocError> {
+    let parameter = nothing(alloc, line)?;
+    function_of(alloc, line, name, parameter, body)
 }
 
 /// `int main(void) { }`
