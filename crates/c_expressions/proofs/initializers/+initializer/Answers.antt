@@ -63,8 +63,8 @@ list-loop-after-preserved t c =
           c.loop-after.invariant.same (followed c.in_ok-next.ensures.reads c.initializer-in-loop-after.ensures.same c.in_ok-after-2.ensures.reads));
     }
 
-pub list-place-2-requires : goal.list-place-2-requires
-list-place-2-requires t c =
+pub list-place-requires-2 : goal.list-place-requires-2
+list-place-requires-2 t c =
     let last : c.loop-after.after ≢ Another = search rules in
     ap (take 1) (c.loop-after.invariant.next ∙ last_next c.loop-after.after (only N.MoreInitializersValue) (drop 3 c.args.reader.now.pending) last)
     ∙ sym (behind_three c.args.reader.now.pending) ∙ ap (drop 3) c.requires
