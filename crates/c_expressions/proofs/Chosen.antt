@@ -23,7 +23,7 @@ module _ (O : Type 0) (sign : O → ℕ) (left : Nonterminal) where
   found_among (o ∷ os) others fit first c = go (λ k l e. found_among os others fit.1 first (k, l, e)) c.0 c.1 c.2
     where
       go : ((k : ℕ) → k < length (map sign os ++ others) → slice_index_or (map sign os ++ others) k first ≡ first
-              → ((o : O) × (first ≡ sign o) × (right_from left first ≡ first ∷ [])) ⊎ Contains others first)
+          → ((o : O) × (first ≡ sign o) × (right_from left first ≡ first ∷ [])) ⊎ Contains others first)
           → (k : ℕ) → k < length (map sign (o ∷ os) ++ others) → slice_index_or (map sign (o ∷ os) ++ others) k first ≡ first
           → ((o : O) × (first ≡ sign o) × (right_from left first ≡ first ∷ [])) ⊎ Contains others first
       go before zero l e = inl (o, sym e, sym (ap (right_from left) e) ∙ fit.0 ∙ ap (λ (x : ℕ). x ∷ []) e)

@@ -1,6 +1,6 @@
 -- Lists that grow at their end, and the pieces that they are read from.
 use Rattle.std.proofs.Common.{◌≡◌, ◌∙◌, ◌<◌, ℕ, List, [], ◌∷◌, ◌++◌, map, length, refl, sym, ap, subst, append_assoc, append-nil, arith}
-use Rattle.std.proofs.lemmas.List.{length-map, map-append}
+use Rattle.std.proofs.lemmas.List.{map-append}
 use Rattle.c_lexer.specs.declared.token_class.TokenClass.{TokenClass}
 use Rattle.c_lexer.specs.declared.token_class.TokenClass.TheVariants as T
 use Rattle.misra_base.specs.declared.place.Place.{Place}
@@ -16,7 +16,6 @@ use Rattle.c_tree.specs.Views.{OneEnumerator, OneMember, OneOperation, declarato
 use Rattle.c_reader.specs.Grouping.{IsGrouped, AreGrouped, ArePostfixes, IsPostfix, AreArguments, AreSpecifiers, IsSpecifier, AreMembers, AreDeclarators, IsDeclarator, AreSized, IsSized, AreBounds, IsBound, HaveSizes, HasSize, AreEnumerators, HasSpecifier, HasDeclarator, HasEnumerator, row_of, binding}
 use Rattle.c_reader.specs.Pieces.{Piece, any, at, word}
 use Rattle.c_reader.specs.Signs.{binary_sign, qualifier_sign}
-use Rattle.c_reader.specs.SpelledExpressions
 use Rattle.c_reader.specs.SpelledExpressions.{arguments, more_arguments, bound, bounds, declarator, declarators, more_declarators, enumerators, more_enumerators, expression, initial, members, operations, pointers, postfix, postfixes, qualifiers, specifier, specifiers}
 
 -- what holds of a list behind which one more stands, for the list that has it at its end

@@ -9,7 +9,7 @@ use Rattle.c_tables.specs.declared.nonterminal.Nonterminal.{Nonterminal}
 use Rattle.c_tables.specs.declared.nonterminal.Nonterminal.TheVariants as N
 use Rattle.c_reader.specs.Grouping.{row_of}
 use Rattle.c_reader.specs.Signs.{binary_sign}
-use Rattle.c_reader.specs.States.{State, only, opened, firsts, right_from}
+use Rattle.c_reader.specs.States.{State, only, opened, right_from}
 use Rattle.c_expressions.specs.Levels.{whole, more, operand, operator_symbol, row, AreOperators}
 use Rattle.c_expressions.specs.declared.level.Level.{Level}
 use Rattle.c_expressions.specs.declared.level.Level.TheVariants as L
@@ -133,7 +133,7 @@ found_among left row [] fit first c = absurd (let h = c.1 in omega arith)
 found_among left row (o ∷ os) fit first c = go (λ k l e. found_among left row os fit.2 first (k, l, e)) c.0 c.1 c.2
   where
     go : ((k : ℕ) → k < length (map sign_number os) → slice_index_or (map sign_number os) k first ≡ first
-            → (operator : BinaryOperator) × (first ≡ sign_number operator) × (row_of operator ≡ row) × (right_from left first ≡ first ∷ []))
+        → (operator : BinaryOperator) × (first ≡ sign_number operator) × (row_of operator ≡ row) × (right_from left first ≡ first ∷ []))
         → (k : ℕ) → k < length (map sign_number (o ∷ os)) → slice_index_or (map sign_number (o ∷ os)) k first ≡ first
         → (operator : BinaryOperator) × (first ≡ sign_number operator) × (row_of operator ≡ row) × (right_from left first ≡ first ∷ [])
     go others zero l e = (o, sym e, fit.0, sym (ap (right_from left) e) ∙ fit.1 ∙ ap (λ (x : ℕ). x ∷ []) e)

@@ -1,11 +1,10 @@
 -- How a loop over a left side that may be nothing goes on.
-use Rattle.std.proofs.Common.{◌≡◌, ◌≢◌, ◌∙◌, ℕ, Bool, true, false, if◌then◌else◌, List, [], ◌∷◌, ◌++◌, map, drop, refl, sym, ap, subst, append_assoc, Result, Ok, Err, IfOk}
+use Rattle.std.proofs.Common.{◌≡◌, ◌≢◌, ◌∙◌, ℕ, Bool, true, if◌then◌else◌, List, [], ◌∷◌, ◌++◌, map, drop, refl, sym, ap, subst, append_assoc, Result, Ok, Err, IfOk}
 use Rattle.c_tables.specs.Grammar.{left_side, rights}
 use Rattle.c_tables.specs.declared.nonterminal.Nonterminal.{Nonterminal}
 use Rattle.c_lexer.specs.declared.token_class.TokenClass.{TokenClass}
 use Rattle.misra_base.specs.declared.place.Place.{Place}
 use Rattle.c_reader.specs.Pieces.{Piece, any, at}
-use Rattle.c_lexer.specs.declared.token_class.TokenClass.TheVariants as T
 use Rattle.c_reader.specs.SpelledExpressions.{trailing}
 use Rattle.c_reader.proofs.Moving.{followed}
 use Rattle.c_expressions.specs.Nodes.{is_trailing}

@@ -3,8 +3,7 @@ use Rattle.std.proofs.Common.{◌≡◌, ◌∙◌, ◌≢◌, ℕ, List, [], �
 use Rattle.c_tree.specs.declared.expression.Qualifier.{Qualifier}
 use Rattle.c_tables.specs.Grammar.{left_side}
 use Rattle.c_tables.specs.declared.nonterminal.Nonterminal.TheVariants as N
-use Rattle.c_reader.specs.Pieces.{Piece, any}
-use Rattle.c_reader.specs.Signs.{qualifier_sign}
+use Rattle.c_reader.specs.Pieces.{Piece}
 use Rattle.c_reader.specs.SpelledExpressions.{qualifiers}
 use Rattle.c_reader.specs.States.{State, Reads}
 use Rattle.c_reader.proofs.Moving.{followed}

@@ -1,5 +1,5 @@
 -- The binary operators by their precedence, the loosest first (C11 6.5.5 to 6.5.14).
-use Rattle.std.specs.Prelude.{◌≡◌, ℕ, List, [], ◌∷◌, Contains}
+use Rattle.std.specs.Prelude.{◌≡◌, ℕ, [], ◌∷◌, Contains}
 use Rattle.c_lexer.specs.TokenClasses.{class_number}
 use Rattle.c_lexer.specs.declared.token_class.TokenClass.TheVariants as T
 use Rattle.c_tree.specs.declared.expression.BinaryOperator.{BinaryOperator}

@@ -4,13 +4,12 @@ use Rattle.c_lexer.specs.declared.token_class.TokenClass.{TokenClass}
 use Rattle.c_lexer.specs.declared.token_class.TokenClass.TheVariants as T
 use Rattle.c_tree.specs.declared.expression.Word.{Word}
 use Rattle.c_tree.specs.Expressions
-use Rattle.c_tree.specs.Views.{OneEnumerator, OneMember, bound_view, bounds_of, declarator_view, declarators_of, enumerator_view, enumerators_of, expression_view, expressions_of, member_view, members_of, operation_view, operations_of, postfix_view, postfixes_of, specifier_view, specifiers_of}
+use Rattle.c_tree.specs.Views.{OneEnumerator, OneMember, bound_view, bounds_of, declarator_view, declarators_of, enumerator_view, enumerators_of, expression_view, expressions_of, member_view, members_of, postfix_view, postfixes_of, specifier_view, specifiers_of}
 use Rattle.c_tables.specs.declared.nonterminal.Nonterminal.{Nonterminal}
 use Rattle.c_tables.specs.declared.nonterminal.Nonterminal.TheVariants as N
 use Rattle.c_tables.specs.Grammar.{left_side, rights}
-use Rattle.c_reader.specs.Grouping.{binding, IsGrouped, IsPostfix, IsGroupedType, IsSpecifier, IsBound, HasSize, IsDeclarator, IsSized, AreGrouped, ArePostfixes, AreMembers, AreArguments, AreEnumerators, AreSpecifiers, AreDeclarators, AreSized, AreBounds, HaveSizes}
-use Rattle.c_reader.specs.Pieces.{Piece, any, at, word}
-use Rattle.c_reader.specs.Signs.{binary_sign}
+use Rattle.c_reader.specs.Grouping.{binding, IsGrouped, IsPostfix, IsGroupedType, IsSpecifier, IsBound, HasSize, IsDeclarator, IsSized, ArePostfixes, AreMembers, AreArguments, AreEnumerators, AreSpecifiers, AreDeclarators, AreSized, AreBounds, HaveSizes}
+use Rattle.c_reader.specs.Pieces.{Piece, any, at}
 use Rattle.c_reader.specs.SpelledExpressions as spelled
 use Rattle.c_reader.specs.States.{State, Reads, only}
 use Rattle.c_reader.proofs.Moving.{followed, into, up_to}

@@ -1,7 +1,7 @@
-use Rattle.std.proofs.Common.{◌≡◌, ◌∙◌, [], ◌∷◌, ◌++◌, map, sym, ap, subst, append-nil}
+use Rattle.std.proofs.Common.{◌∙◌, [], ◌∷◌, ◌++◌, map, sym, ap, subst, append-nil}
 use Rattle.std.specs.Option.{option_map}
 use Rattle.c_tree.specs.Statements
-use Rattle.c_tree.specs.StatementViews.{init_declarator_view, initialization_view}
+use Rattle.c_tree.specs.StatementViews.{initialization_view}
 use Rattle.c_tree.specs.Views.{bound_view, bounds_of, pointers_view}
 use Rattle.c_reader.specs.GroupedStatements.{AreGroupedObjects}
 use Rattle.c_reader.specs.SpelledExpressions as spelled_expression

@@ -1,10 +1,10 @@
-use Rattle.std.proofs.Common.{◌≡◌, ◌≢◌, ◌∙◌, ◌<◌, ◌+◌, ◌*◌, ℕ, List, [], ◌∷◌, ◌++◌, map, take, drop, length, sym, ap, subst, arith, append-nil, rules}
+use Rattle.std.proofs.Common.{◌≡◌, ◌≢◌, ◌∙◌, ℕ, List, ◌∷◌, ◌++◌, map, take, drop, sym, ap, subst, arith, append-nil, rules}
 use Rattle.c_lexer.specs.declared.token_class.TokenClass.TheVariants as T
 use Rattle.c_tree.specs.Statements
 use Rattle.c_tree.specs.StatementViews.{initializer_view, initializers_of}
 use Rattle.c_tables.specs.declared.nonterminal.Nonterminal.TheVariants as N
 use Rattle.c_reader.specs.GroupedStatements.{AreGroupedInitializers, IsGroupedInitializer}
-use Rattle.c_reader.specs.Pieces.{Piece, any, at}
+use Rattle.c_reader.specs.Pieces.{Piece, at}
 use Rattle.c_reader.specs.SpelledStatements as spelled
 use Rattle.c_reader.specs.States.{Reads, only}
 use Rattle.c_reader.proofs.Moving.{followed, into}

@@ -1,9 +1,9 @@
-use Rattle.std.proofs.Common.{◌∙◌, ℕ, List, drop, length, ap, subst, arith}
+use Rattle.std.proofs.Common.{◌∙◌, List, drop, length, ap, subst, arith}
 use Rattle.c_tree.specs.declared.expression.Pointer.{Pointer}
 use Rattle.c_tables.specs.declared.nonterminal.Nonterminal.TheVariants as N
 use Rattle.c_reader.specs.Pieces.{Piece}
 use Rattle.c_reader.specs.States.{Reads}
-use Rattle.c_reader.proofs.Moving.{followed, into, up_to}
+use Rattle.c_reader.proofs.Moving.{followed, up_to}
 use Rattle.c_expressions.proofs.Chosen.{drop_two}
 use Rattle.c_expressions.proofs.Growing.{pointers_pushed}
 use Rattle.c_expressions.proofs.Loops.{again}

@@ -1,4 +1,4 @@
-use Rattle.std.proofs.Common.{◌∙◌, ◌<◌, drop, length, Option, Some, IfSome, subst, arith}
+use Rattle.std.proofs.Common.{◌∙◌, ◌<◌, drop, length, Option, IfSome, subst, arith}
 use Rattle.c_tree.specs.declared.expression.Qualifier.{Qualifier}
 use Rattle.c_expressions.proofs.Qualifiers.{another, is_none, no_more, qualifier_pushed, not_pushed}
 use Rattle.c_expressions.proofs.pointer.qualifiers.Goals as goal

@@ -1,4 +1,4 @@
-use Rattle.std.proofs.Common.{◌≡◌, ◌≤◌, ◌∷◌, map, drop, length}
+use Rattle.std.proofs.Common.{◌≡◌, ◌≤◌, ◌∷◌, drop, length}
 use Rattle.c_tables.specs.Grammar.{left_side}
 use Rattle.c_tables.specs.declared.nonterminal.Nonterminal.TheVariants as N
 use Rattle.c_reader.specs.SpelledExpressions as spelled
