@@ -5,7 +5,7 @@ use Rattle.std.proofs.lemmas.List.{take-append-drop}
 use Rattle.misra_base.specs.declared.refusal.Refusal.{Refusal}
 use Rattle.c_lexer.specs.Limits.{lexical_fault}
 use Rattle.c_lexer.specs.Tokens.{tokens_of}
-use Rattle.c_grammar.specs.declared.tables.TheConstants.{PRODUCTIONS}
+use Rattle.c_tables.specs.declared.tables.TheConstants.{PRODUCTIONS}
 use Rattle.c_grammar.proofs.OneFault.{one_syntax_fault, no_syntax_fault}
 use Rattle.analysis.specs.Form.{Program, words_of, words_in, IsViable, LeavesFormAt}
 use Rattle.analysis.specs.Faults.{IsSupportedAs, IsFirstFault, IsFaultBehind, IsFaultBehindTokens, place_of}

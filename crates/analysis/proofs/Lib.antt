@@ -10,7 +10,3 @@ mod Turns
 mod Exclusion
 mod Phases
 mod Ordered
-mod FormTrees
-mod FormClasses
-mod Supported
-mod SampleTexts

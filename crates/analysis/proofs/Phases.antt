@@ -5,11 +5,10 @@ use Rattle.misra_base.specs.declared.refusal.CheckStop.TheVariants.{Refused, Mem
 use Rattle.c_lexer.specs.declared.token.Token.{Token}
 use Rattle.c_lexer.specs.Limits.{lexical_fault}
 use Rattle.c_lexer.specs.Tokens.{tokens_of}
-use Rattle.c_grammar.specs.declared.tables.TheConstants.{PRODUCTIONS}
+use Rattle.c_tables.specs.declared.tables.TheConstants.{PRODUCTIONS}
 use Rattle.ll_core.specs.Answers.{IsDerivedWithin}
-use Rattle.c_rawtree.specs.Statements.{ExternalData}
 use Rattle.c_grammar.specs.Syntax.{classes_of, StopsBySyntax}
-use Rattle.c_grammar.specs.Trees.{IsTree}
+use Rattle.c_reader.specs.States.{HasOneDerivation}
 use Rattle.c_grammar.proofs.OneFault.{no_syntax_fault}
 use Rattle.analysis.specs.Form.{Program}
 use Rattle.analysis.specs.Faults.{IsParsed, IsNotBuilt, IsSupportedAs, IsFirstFault, StopsAt}
@@ -25,6 +24,7 @@ pub not_built_first : (text : List ℕ) (stop : CheckStop) → lexical_fault tex
 not_built_first text Memory lexed parsed stops = tt
 not_built_first text (Refused fault) lexed parsed stops = rw lexed (inr (parsed, stops))
 
-pub parsed_of : (text : List ℕ) (tokens : List Token) (tree : List ExternalData) → tokens ≡ tokens_of text → IsTree text tokens tree → IsParsed text
-parsed_of text tokens tree same is =
-    (is.numbers, subst (λ (ts : List Token). IsDerivedWithin PRODUCTIONS (classes_of ts) is.numbers) same (is.derivation, is.parsed, is.within))
+pub parsed_of : (text : List ℕ) (tokens : List Token) → tokens ≡ tokens_of text → HasOneDerivation (record { text = text; tokens = tokens }) → IsParsed text
+unfolding HasOneDerivation
+parsed_of text tokens same derived =
+    (derived.0, subst (λ (ts : List Token). IsDerivedWithin PRODUCTIONS (classes_of ts) derived.0) same derived.1)

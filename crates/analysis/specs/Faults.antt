@@ -9,7 +9,7 @@ use Rattle.c_lexer.specs.Positions.{end_place}
 use Rattle.c_lexer.specs.Tokens.{tokens_of}
 use Rattle.c_lexer.specs.Limits.{lexical_fault}
 use Rattle.ll_core.specs.Answers.{IsDerivedWithin}
-use Rattle.c_grammar.specs.declared.tables.TheConstants.{PRODUCTIONS}
+use Rattle.c_tables.specs.declared.tables.TheConstants.{PRODUCTIONS}
 use Rattle.c_grammar.specs.Syntax.{classes_of, IsSyntaxFault}
 use Rattle.analysis.specs.Form.{Program, words_in, IsProgramOf, LeavesFormAt}
 

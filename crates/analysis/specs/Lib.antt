@@ -9,4 +9,3 @@ pub mod Step
 pub mod Runs
 pub mod Samples
 pub mod Laws
-pub mod Premises

@@ -1,6 +1,5 @@
 -- A phase that stops by a fault of the syntax.
-use Rattle.std.proofs.Common.{◌≡◌, ◌≢◌, ◌<◌, ◌≤◌, ℕ, List, length, get_or, slice_get, All, None, Some, IfSome, MatchOption, Bor, refl, sym, subst, arith}
-use Rattle.std.proofs.lemmas.List.Elements.{All-map}
+use Rattle.std.proofs.Common.{◌≡◌, ◌<◌, ◌≤◌, ℕ, List, length, get_or, slice_get, None, Some, IfSome, MatchOption, Bor, refl, sym, subst}
 use Rattle.std.proofs.lemmas.List.{length-map}
 use Rattle.std.proofs.lemmas.Option.{slice_get-get_or, slice_get_past, slice_get_read}
 use Rattle.std.specs.Option.{option_copied}
@@ -12,7 +11,11 @@ use Rattle.c_lexer.specs.declared.token.Token.{Token}
 use Rattle.c_lexer.specs.Limits.{StopsBy}
 use Rattle.ll_core.specs.declared.production.Production.{Production}
 use Rattle.ll_core.specs.declared.parser.ParseStop.{ParseStop}
+use Rattle.ll_core.specs.declared.parser.ParseStop.TheVariants.{At, Deep}
 use Rattle.ll_core.specs.Answers.{IsStop}
+use Rattle.ll_core.specs.Sentences.{StopsAt, IsDeepAt}
+use Rattle.c_tables.specs.declared.tables.TheConstants.{PRODUCTIONS}
+use Rattle.c_reader.specs.States.{Stops}
 use Rattle.c_grammar.specs.Syntax.{classes_of, IsSyntaxFault, StopsBySyntax}
 
 same_some : {A : Type 0} {x y : A} → Some x ≡ Some y → x ≡ y
@@ -23,12 +26,21 @@ pub stops_by_syntax : (grammar : List Production) (text : List ℕ) (tokens : Li
 stops_by_syntax grammar text tokens fault Memory by is_fault = tt
 stops_by_syntax grammar text tokens fault (Refused refusal) by is_fault = is_fault refusal (same_some (sym by))
 
-pub no_end_inside : (tokens : List Token) → All (λ t. t.class < 80) tokens → All (λ c. c ≢ 65535) (classes_of tokens)
-no_end_inside tokens h = All-map (λ c. c ≢ 65535) (λ t. t.class) tokens (λ k d lt e. omega (arith, h k d lt, e))
+-- the descent stops where its stop says
+pub left_where : (text : List ℕ) (tokens : List Token) (stop : ParseStop) (k : ℕ) → stop ≡ At k → Stops (record { text = text; tokens = tokens }) stop
+    → StopsAt PRODUCTIONS (classes_of tokens) k
+unfolding Stops
+left_where text tokens stop k is stops = subst (λ (s : ParseStop). IsStop PRODUCTIONS (classes_of tokens) s) is stops
 
-pub same_stop : (g h : List Production) (xs ys : List ℕ) (stop same : ParseStop) → g ≡ h → xs ≡ ys → stop ≡ same → IsStop g xs stop → IsStop h ys same
-same_stop g h xs ys stop same is_g is_x is_stop s =
-    subst (λ (v : ParseStop). IsStop h ys v) is_stop (subst (λ (v : List ℕ). IsStop h v stop) is_x (subst (λ (v : List Production). IsStop v xs stop) is_g s))
+pub deep_where : (text : List ℕ) (tokens : List Token) (stop : ParseStop) (k : ℕ) → stop ≡ Deep k → Stops (record { text = text; tokens = tokens }) stop
+    → IsDeepAt PRODUCTIONS (classes_of tokens) k
+unfolding Stops
+deep_where text tokens stop k is stops = subst (λ (s : ParseStop). IsStop PRODUCTIONS (classes_of tokens) s) is stops
+
+pub deep_within : (text : List ℕ) (tokens : List Token) (stop : ParseStop) (k : ℕ) → stop ≡ Deep k → Stops (record { text = text; tokens = tokens }) stop
+    → k < length tokens
+deep_within text tokens stop k is stops =
+    let deep = deep_where text tokens stop k is stops in rw (length-map tokens (λ t. t.class)) at deep.in_range
 
 pub found_at : (tokens : List Token) (k : ℕ) (other : Token) → k < length (classes_of tokens) → slice_get tokens k ≡ Some (get_or tokens k other)
 found_at tokens k other lt = slice_get-get_or tokens k other (rw (length-map tokens (λ t. t.class)) at lt)

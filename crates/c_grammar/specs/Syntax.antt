@@ -11,6 +11,7 @@ use Rattle.c_lexer.specs.Positions.{end_place}
 use Rattle.c_lexer.specs.Slices.{token_text}
 use Rattle.ll_core.specs.declared.production.Production.{Production}
 use Rattle.ll_core.specs.Sentences.{StopsAt, IsDeepAt}
+use Rattle.c_tables.specs.Productions.{Counts}
 
 -- the tokens as the grammar sees them
 abbrev pub classes_of : List Token → List ℕ
@@ -44,10 +45,12 @@ pub record LeavesGrammar (grammar : List Production) (text : List ℕ) (tokens :
   pub stops : StopsAt grammar (classes_of tokens) number
   pub is : refusal ≡ refused_at text (slice_get tokens number)
 
--- token k is the first that is nested too deep
+-- token k is the first that is nested too deep; what counts as a nesting is a derivation of `statement`, `if`, `cond`,
+-- `unary`, `init` or `members`
 pub record NestsTooDeep (grammar : List Production) (tokens : List Token) (refusal : Refusal) : Type 0 where
   pub number : ℕ
   pub token : Token
+  pub counted : Counts grammar
   pub deep : IsDeepAt grammar (classes_of tokens) number
   pub found : slice_get tokens number ≡ Some token
   pub is : refusal ≡ too_deep token

@@ -1,46 +1,37 @@
-ghost use Rattle.std.specs.Prelude.{◌≡◌, ◌≤◌, ◌<◌, All, Some, length, IfOk, IfErr, IfSome};
-ghost use Rattle.ll_core.specs.Answers.{IsDerivedWithin, IsOnlyDerivation};
+ghost use Rattle.std.specs.Prelude.{◌≡◌, ◌≤◌, ◌<◌, All, Some, length, OnOk, IfOk, IfErr, IfSome};
 ghost use Rattle.c_lexer.specs.Limits.{StopsBy};
 ghost use Rattle.c_lexer.specs.Slices.{IsWithin};
-ghost use Rattle.c_grammar.specs.Syntax.{classes_of, construct_name, refused_token, refused_at, StopsBySyntax};
+ghost use Rattle.c_tables.specs.declared.tables.TheConstants.{PRODUCTIONS};
+ghost use Rattle.c_tree.specs.StatementViews.{tree_view};
+ghost use Rattle.c_reader.specs.SpelledExternals.{IsTree};
+ghost use Rattle.c_reader.specs.States.{HasOneDerivation};
+ghost use Rattle.c_grammar.specs.Syntax.{construct_name, refused_token, refused_at, StopsBySyntax};
 
-use crate::tables::PRODUCTIONS;
 use c_lexer::{FIRST_PLACE, Token, TokenClass, place_after};
-use ll_core::{Derivation, Grammar, ParseStop, parse};
+use c_tables::nestings_are_right;
+use c_tree::Tree;
+use ll_core::ParseStop;
 use misra_base::{CheckStop, Name, Place, Refusal};
-use std::alloc::{AllocError, Global};
+use std::alloc::Global;
 
-/// The leftmost derivation of the tokens of a text. Other tokens are refused at the first that no
-/// translation unit goes on with, as U6 where it is a construct that C has and this subset leaves out, else
-/// as U7; or as U8 at the first that is nested deeper than 64.
-pub fn derivation(
-    alloc: Global,
-    grammar: &Grammar<234, 1328>,
-    text: &[u8],
-    tokens: &[Token],
-) -> Result<Derivation, CheckStop>
-    requires grammar { grammar.now ≡ PRODUCTIONS }
+/// The tree of the tokens of a text. Tokens that have none are refused at the first that no translation unit goes on
+/// with, as U6 where it is a construct that C has and this subset leaves out, else as U7; or as U8 at the first that is
+/// nested deeper than 64.
+pub fn tree(alloc: Global, text: &[u8], tokens: &[Token]) -> Result<Tree, CheckStop>
     requires size { length text.now ≤ 262144 }
     requires within { All (IsWithin (length text.now)) tokens.now }
     requires classes { All (λ token. token.class < 80) tokens.now }
-    ensures derived { IfOk result (IsDerivedWithin PRODUCTIONS (classes_of tokens.now)) }
-    ensures only { IfOk result (IsOnlyDerivation PRODUCTIONS (classes_of tokens.now)) }
+    ensures tree { IfOk result (λ t. IsTree text.now tokens.now (tree_view t)) }
+    ensures derived { OnOk result (HasOneDerivation (record { text = text.now; tokens = tokens.now })) }
     ensures refused { IfErr result (StopsBySyntax PRODUCTIONS text.now tokens.now) }
 {
-    let classes = classes_of(alloc, tokens)?;
-    match parse(alloc, grammar, &classes) {
-        Ok(derivation) => Ok(derivation),
+    nestings_are_right();
+    match c_statements::tree(alloc, text, tokens) {
+        Ok(tree) => Ok(tree),
         Err(ParseStop::At(k)) => Err(left_at(alloc, text, tokens.get(k).copied())),
         Err(ParseStop::Deep(k)) => Err(refused(alloc, 8, tokens[k].place, b"nesting")),
         Err(ParseStop::Memory) => Err(CheckStop::Memory),
     }
-}
-
-/// The tokens as the grammar sees them.
-fn classes_of(alloc: Global, tokens: &[Token]) -> Result<Vec<u16>, AllocError>
-    ensures { IfOk result (λ v. v.items ≡ classes_of tokens.now) }
-{
-    tokens.iter().map(|token| token.class).collect(alloc)
 }
 
 fn refused(alloc: Global, code: u8, place: Place, name: &[u8]) -> CheckStop

@@ -9,7 +9,7 @@ use Rattle.c_lexer.specs.TokenClasses.{class_number}
 use Rattle.ll_core.specs.declared.production.Production.{Production}
 use Rattle.ll_core.specs.declared.parser.ParseStop.{ParseStop}
 use Rattle.ll_core.specs.declared.parser.ParseStop.TheVariants.{Memory}
-use Rattle.ll_core.specs.Answers.{IsStop}
+use Rattle.ll_core.specs.Answers.{IsDerivedWithin, IsOnlyDerivation, IsStop}
 use Rattle.ll_core.specs.Machines.{Position, expanded, shifted}
 use Rattle.ll_core.specs.Trees.{is_left, right_of}
 use Rattle.c_tables.specs.declared.tables.TheConstants.{PRODUCTIONS}
@@ -17,7 +17,7 @@ use Rattle.c_tables.specs.declared.nonterminal.Nonterminal.{Nonterminal}
 use Rattle.c_tables.specs.Grammar.{left_side}
 use Rattle.c_tables.proofs.Rights.{nonterminal_is_left, token_is_no_left}
 use Rattle.c_reader.specs.Readers.{IsReader}
-use Rattle.c_reader.specs.States.{Source, State, Expects, Stops, opened}
+use Rattle.c_reader.specs.States.{Source, State, Expects, HasOneDerivation, Stops, opened}
 
 abbrev pub state_of : List ℕ → List Token → Position → State
 state_of text tokens m = record { source = record { text = text; tokens = tokens }; rest = drop m.read tokens; pending = m.pending }
@@ -49,6 +49,15 @@ module _ (text : List ℕ) (tokens : List Token) (m : Position) (reader : IsRead
   stops stop h =
       subst (λ (s : State). IsStop PRODUCTIONS (map (λ token. token.class) s.source.tokens) stop) is
       (subst (λ (ts : List ℕ). IsStop PRODUCTIONS ts stop) reader.classes (subst (λ (g : List Production). IsStop g m.tokens stop) reader.grammar h))
+
+  pub derived : (numbers : List ℕ) → IsDerivedWithin m.grammar m.tokens numbers → IsOnlyDerivation m.grammar m.tokens numbers → HasOneDerivation s.source
+  unfolding HasOneDerivation
+  derived numbers within only =
+      let at_all = subst (λ (g : List Production). IsDerivedWithin g m.tokens numbers × IsOnlyDerivation g m.tokens numbers) reader.grammar (within, only) in
+      let at_tokens = subst (λ (ts : List ℕ). IsDerivedWithin PRODUCTIONS ts numbers × IsOnlyDerivation PRODUCTIONS ts numbers) reader.classes at_all in
+      let at_state : IsDerivedWithin PRODUCTIONS (map (λ token. token.class) s.source.tokens) numbers × IsOnlyDerivation PRODUCTIONS (map (λ token. token.class) s.source.tokens) numbers =
+      subst (λ (s : State). IsDerivedWithin PRODUCTIONS (map (λ token. token.class) s.source.tokens) numbers × IsOnlyDerivation PRODUCTIONS (map (λ token. token.class) s.source.tokens) numbers) is at_tokens in
+      (numbers, at_state.0, at_state.1)
 
   pub moved : (p : Production) (right : List ℕ) (n : Position) → n ≡ expanded p m → right_of p ≡ right → state_of text tokens n ≡ opened right s
   moved p right n e r =

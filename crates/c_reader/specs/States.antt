@@ -2,7 +2,7 @@
 use Rattle.std.specs.Prelude.{◌≡◌, ℕ, List, [], ◌∷◌, ◌++◌, take, drop, length, map, ◌==◌, if◌then◌else◌}
 use Rattle.c_lexer.specs.declared.token.Token.{Token}
 use Rattle.ll_core.specs.declared.parser.ParseStop.{ParseStop}
-use Rattle.ll_core.specs.Answers.{IsStop}
+use Rattle.ll_core.specs.Answers.{IsDerivedWithin, IsOnlyDerivation, IsStop}
 use Rattle.ll_core.specs.Predictions.{first_or}
 use Rattle.ll_core.specs.Trees.{end_of_text}
 use Rattle.c_tables.specs.declared.tables.TheConstants.{PRODUCTIONS}
@@ -42,6 +42,12 @@ pub record ReadsBehind (front whole : List Piece) (old new : State) : Type 0 whe
 -- the tokens leave the grammar where the stop says, or memory was short
 unfoldable pub Stops : Source → ParseStop → Type 0
 Stops source stop = IsStop PRODUCTIONS (map (λ token. token.class) source.tokens) stop
+
+-- the tokens have a derivation from the start that stays within the nesting, and no other
+unfoldable pub HasOneDerivation : Source → Type 0
+HasOneDerivation source =
+    let classes = map (λ token. token.class) source.tokens in
+    (numbers : List ℕ) × IsDerivedWithin PRODUCTIONS classes numbers × IsOnlyDerivation PRODUCTIONS classes numbers
 
 -- ---- the right sides of a left side
 

@@ -6,7 +6,7 @@ ghost use Rattle.c_lexer.specs.TokenClasses.{class_number};
 ghost use Rattle.c_tables.specs.declared.tables.TheConstants.{PRODUCTIONS};
 ghost use Rattle.c_tables.specs.Grammar.{left_side, rights};
 ghost use Rattle.c_reader.specs.Pieces.{any, at, word};
-ghost use Rattle.c_reader.specs.States.{Expects, Reads, Stops, opened, only, right_from, firsts, second};
+ghost use Rattle.c_reader.specs.States.{Expects, HasOneDerivation, Reads, Stops, opened, only, right_from, firsts, second};
 
 use crate::signs::number;
 use c_lexer::{Token, TokenClass};
@@ -74,6 +74,7 @@ impl<'a> Reader<'a> {
     pub fn finish(self) -> Result<(), ParseStop>
         requires { self.pending ≡ [] }
         ensures all { OnOk result (self.entry.rest ≡ []) }
+        ensures derived { OnOk result (HasOneDerivation self.entry.source) }
         ensures stop { IfErr result (Stops self.entry.source) }
     {
         self.machine.finish()?;

@@ -5,7 +5,7 @@ use std::alloc::{AllocError, Global};
 use std::process::Abort;
 use std::test::Fail;
 
-fn repeated(alloc: Global, piece: &str, count: usize) -> Result<String, AllocError> {
+pub(crate) fn repeated(alloc: Global, piece: &str, count: usize) -> Result<String, AllocError> {
     let mut text = String::new(alloc);
     for _ in 0..count {
         text.push_str(piece)?;
@@ -25,7 +25,7 @@ fn refused_line(alloc: Global, text: &str) -> Result<Vec<u8>, AllocError> {
 }
 
 /// Shows that the text is refused by this line.
-fn show(rt: &impl Abort, alloc: Global, text: &str, line: &str) -> Result<(), Fail> {
+pub(crate) fn show(rt: &impl Abort, alloc: Global, text: &str, line: &str) -> Result<(), Fail> {
     let written = refused_line(alloc, text)?;
     assert_eq!(rt; written.as_slice(), line.as_bytes(), "{text}");
     Ok(())

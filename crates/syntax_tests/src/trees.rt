@@ -1,124 +1,55 @@
-use crate::rows::rows;
+use crate::tree_rows::tree_rows;
+use crate::unit_shapes::shape_of;
 use c_grammar::tree;
 use c_lexer::tokens;
-use c_printer::print;
-use c_rawtree::Tree;
-use std::alloc::{AllocError, Global};
+use std::alloc::Global;
 use std::process::Abort;
 use std::test::Fail;
 
-fn tree_of(rt: &impl Abort, alloc: Global, text: &[u8]) -> Tree {
-    let tokens = tokens(alloc, text).expect(rt, "the text has tokens");
-    tree(alloc, text, &tokens).expect(rt, "the text has a tree")
-}
-
-/// A tree as its nodes are named, without their places.
-fn shape(alloc: Global, tree: &Tree) -> Result<String, AllocError> {
-    let shown = format!(in alloc; "{tree:?}")?;
-    let mut shape = String::new(alloc);
-    let mut rest = shown.as_str();
-    for _ in 0..shown.len() {
-        let Some((before, behind)) = rest.split_once("Place {") else {
-            break;
-        };
-        shape.push_str(before)?;
-        rest = match behind.split_once('}') {
-            Some((_, behind)) => behind,
-            None => behind,
-        };
-    }
-    shape.push_str(rest)?;
-    Ok(shape)
-}
-
-/// Shows that the tree of a text, printed and read again, is the same tree.
-fn show_printed(rt: &impl Abort, alloc: Global, text: &str) -> Result<(), Fail> {
-    let first = tree_of(rt, alloc, text.as_bytes());
-    let printed = print(alloc, &first)?;
-    let second = tree_of(rt, alloc, &printed);
-    let wanted = shape(alloc, &first)?;
-    assert_eq!(rt; shape(alloc, &second)?.as_str(), wanted.as_str(), "{text}");
+/// Shows that the text has this tree.
+fn show(rt: &impl Abort, alloc: Global, text: &str, wanted: &str) -> Result<(), Fail> {
+    let tokens = tokens(alloc, text.as_bytes()).expect(rt, "the text has tokens");
+    let tree = tree(alloc, text.as_bytes(), &tokens).expect(rt, "the text has a tree");
+    let line = format!(in alloc; " {wanted}")?;
+    assert_eq!(rt;
+        shape_of(alloc, &tree)?.written(),
+        line.as_bytes(),
+        "{text}"
+    );
     Ok(())
 }
 
 #[test]
-fn a_printed_tree_is_read_as_the_same_tree(rt: HostRuntime) -> Result<(), Fail> {
+fn each_text_of_the_table_has_its_tree(rt: HostRuntime) -> Result<(), Fail> {
     let alloc = rt.alloc();
-    for row in rows().split('\n') {
-        if let Some((text, refusal)) = row.split_once(" => ")
-            && refusal.starts_with("U0")
-        {
-            show_printed(&rt, alloc, text)?;
+    assert_eq!(rt; tree_rows().matches(" => ").count(), 73);
+    for row in tree_rows().split('\n') {
+        if let Some((text, wanted)) = row.split_once(" => ") {
+            show(&rt, alloc, text, wanted)?;
         }
     }
     Ok(())
 }
 
 #[test]
-fn a_printed_tree_of_a_whole_text_is_read_as_the_same_tree(rt: HostRuntime) -> Result<(), Fail> {
+fn a_tree_of_several_lines_has_the_places_of_its_tokens(rt: HostRuntime) -> Result<(), Fail> {
     let alloc = rt.alloc();
-    for text in [
-        "",
-        "#include <threads.h>\n#include <stdint.h>\n",
-        "static mtx_t mtx_lock;\n",
-        "static mtx_t a, b;\nstatic mtx_t a;\n",
-        "/* $ */ int main(void) // 09\n# 12 \"x\"\n{ return\x0c\r\n0; }",
-        "static mtx_t m;\nint main(void)\n{\n    (void)mtx_init(&m, mtx_recursive);\n    (void)mtx_lock(&m);\n    (void)mtx_unlock(&m);\n    return 00;\n}\n",
-    ] {
-        show_printed(&rt, alloc, text)?;
-    }
-    Ok(())
-}
-
-#[test]
-fn a_tree_keeps_what_its_text_says(rt: HostRuntime) -> Result<(), Fail> {
-    let alloc = rt.alloc();
-    for (text, printed) in [
-        ("int a=1,*b[2];", "int a = 1 , * b [ 2 ] ; "),
+    for (text, wanted) in [
+        ("#include <threads.h>\n#include <stdint.h>\n", "3:1"),
         (
-            "typedef struct s { int a, *b; } t; t c = { 1, { 2 } };",
-            "typedef struct s { int a , * b ; } t ; t c = { 1 , { 2 , } , } ; ",
+            "static mtx_t a,\n  b;\n",
+            "(declare (Static 1:1=static) (library 1:8=mtx_t) (name 1:14=a) (name 2:3=b)) 3:1",
         ),
         (
-            "enum e { A = 1, B } ; static enum e *const volatile f(int a[], char, mtx_t *m);",
-            "enum e { A = 1 , B , } ; static enum e * const volatile f ( int a [ ] , char , mtx_t * m ) ; ",
+            "/* $ */ int main(void) // 09\n# 12 \"x\"\n{ return\x0c\r\n0; }",
+            "(function (Int 1:9=int) 1:13=main (parameter (Void 1:18=void) -) (block 3:1 (return 3:3 4:1=0) 4:4)) 4:5",
         ),
         (
-            "int g(void) { return (a - b) - (c - d) * -(e) / (f ? g : h); }",
-            "int g ( void ) { return ( a - b ) - ( c - d ) * - e / ( f ? g : h ) ; } ",
-        ),
-        (
-            "int g(void) { return !(a && b || c) == d << 1 & e ^ f | (long *)g[1].h->i(j, 2); }",
-            "int g ( void ) { return ! ( a && b || c ) == d << 1 & e ^ f | ( long * ) g [ 1 ] . h -> i ( j , 2 ) ; } ",
-        ),
-        (
-            "int g(void) { return sizeof((a)) + sizeof(int) + ((b))[0] + (*c)(d); }",
-            "int g ( void ) { return sizeof ( a ) + sizeof ( int ) + b [ 0 ] + ( * c ) ( d ) ; } ",
-        ),
-        (
-            "int g(void) { (*p)++; *p--; ++(a); b <<= (c); ; continue; { } }",
-            "int g ( void ) { ( * p ) ++ ; * p -- ; ++ a ; b <<= c ; ; continue ; { } } ",
-        ),
-        (
-            "int g(void) { for (int i = 0; i < 2; i++) { } for (;;) { break; } while (a) { } do { } while (b); }",
-            "int g ( void ) { for ( int i = 0 ; i < 2 ; i ++ ) { } for ( ; ; ) { break ; } while ( a ) { } do { } while ( b ) ; } ",
-        ),
-        (
-            "int g(void) { if (a) { } else if (b) { return; } else { int c; } }",
-            "int g ( void ) { if ( a ) { } else if ( b ) { return ; } else { int c ; } } ",
-        ),
-        (
-            "int g(void) { switch (a) { case 1: case 2: b = 3; break; case 'c': return 4; default: break; } }",
-            "int g ( void ) { switch ( a ) { case 1 : case 2 : b = 3 ; break ; case 'c' : return 4 ; default : break ; } } ",
+            "int f(void)\n{\n    do {\n    } while (a);\n}\n",
+            "(function (Int 1:1=int) 1:5=f (parameter (Void 1:7=void) -) (block 2:1 (do 3:5 (block 3:8 4:5) 4:7 4:14=a) 5:1)) 6:1",
         ),
     ] {
-        let tree = tree_of(&rt, alloc, text.as_bytes());
-        assert_eq!(rt;
-            print(alloc, &tree)?.as_slice(),
-            printed.as_bytes(),
-            "{text}"
-        );
-        show_printed(&rt, alloc, text)?;
+        show(&rt, alloc, text, wanted)?;
     }
     Ok(())
 }

@@ -3,6 +3,7 @@ use Rattle.std.proofs.lemmas.Result.{err_from_is_err_and}
 use Rattle.misra_base.specs.declared.finding.Finding.{Finding}
 use Rattle.misra_base.specs.Orders.{findings_in_order}
 use Rattle.misra_base.specs.Reports.{IsSilent}
+use Rattle.analysis.specs.Faults.{IsSupportedAs}
 use Rattle.analysis.specs.Findings.{findings_of}
 use Rattle.analysis.specs.Form.{Program}
 use Rattle.analysis.proofs.Phases.{only_memory, not_built_first, parsed_of}
@@ -18,7 +19,7 @@ pub returns-in_err-program-clause-refused : goal.returns-in_err-program-clause-r
 returns-in_err-program-clause-refused c =
     let r = err_from_is_err_and c.from_residual-in_err-program.result c.from_residual-in_err-program.ensures.1 in
     rw (r.1, r.2)
-    (not_built_first c.args.text.now _ c.in_ok-tokens.ensures.exact.0 (parsed_of _ _ _ (c.deref.ensures.value ∙ c.in_ok-tokens.ensures.exact.1) c.in_ok-tree.ensures.tree) c.in_err-program.ensures.refused)
+    (not_built_first c.args.text.now _ c.in_ok-tokens.ensures.exact.0 (parsed_of c.args.text.now _ (c.deref.ensures.value ∙ c.in_ok-tokens.ensures.exact.1) c.in_ok-tree.ensures.derived) c.in_err-program.ensures.refused)
 
 pub report_of-requires : goal.report_of-requires
 report_of-requires c = all_declared _ _ c.in_ok-program.ensures.ok.of_form.declared
@@ -33,3 +34,12 @@ returns-clause-silence c = λ p s guideline judged_too silent.
     c.silence_is_sound.ensures p guideline judged_too
     (subst (λ (q : Program). IsSilent guideline (findings_of q)) (c.in_ok-program.ensures.only p s.program)
     (subst (λ (found : List Finding). IsSilent guideline found) c.in_ok-report.ensures silent))
+
+pub returns-clause-report : goal.returns-clause-report
+returns-clause-report c =
+    let supported : IsSupportedAs c.args.text.now _ = record {
+      lexed = c.in_ok-tokens.ensures.exact.0;
+      parsed = parsed_of c.args.text.now _ (c.deref.ensures.value ∙ c.in_ok-tokens.ensures.exact.1) c.in_ok-tree.ensures.derived;
+      program = c.in_ok-program.ensures.ok;
+    } in
+    (_, supported, c.in_ok-report.ensures)

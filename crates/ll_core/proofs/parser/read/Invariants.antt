@@ -1,13 +1,12 @@
-use Rattle.std.proofs.Common.{◌+◌, ◌-◌, ◌^◌, ◌≤◌, All, length, reverse}
-use Rattle.ll_core.proofs.Progress.{Progress}
+use Rattle.std.proofs.Common.{◌≡◌, ◌+◌, ◌-◌, ◌^◌, length}
 use Rattle.ll_core.proofs.parser.read.Given as goal
 
-abbrev pub invariant-loop-expected : goal.invariant-loop-expected
-invariant-loop-expected g l = record {
-  progress : Progress l.grammar l.tokens l.k l.numbers.items (reverse l.stack.items);
-  bounded : All (λ e. e.nesting ≤ length l.numbers.items) (reverse l.stack.items);
+abbrev pub invariant-loop-symbol : goal.invariant-loop-symbol
+invariant-loop-symbol g l = record {
+  grammar : l.machine.grammar ≡ l.grammar;
+  tokens : l.machine.tokens ≡ l.tokens;
 }
 
 -- each turn takes a production, of which memory has room for fewer than 2 ^ 64, or a token
-abbrev pub decreases-loop-expected : goal.decreases-loop-expected
-decreases-loop-expected g l = (2 ^ 64 - length l.numbers.items) + (length l.tokens - l.k)
+abbrev pub decreases-loop-symbol : goal.decreases-loop-symbol
+decreases-loop-symbol g l = (2 ^ 64 - l.machine.taken) + (length l.tokens - l.machine.read)

@@ -1,0 +1,4 @@
+pub mod Growing
+pub mod Joining
+pub mod Signs
+pub mod Words
