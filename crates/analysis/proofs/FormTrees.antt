@@ -7,7 +7,7 @@ use Rattle.std.proofs.lemmas.List.Elements.{All-from_recursion}
 use Rattle.std.proofs.lemmas.Slice.Eq.{bytes_eq-Decides}
 use Rattle.ll_core.specs.declared.production.Production.{Production}
 use Rattle.ll_core.specs.Trees.{right_of, is_left, IsToken, Forest, Empty, Leaf, Node, IsForest, leaves, deepening, nestings}
-use Rattle.c_grammar.specs.declared.tables.TheConstants.{PRODUCTIONS}
+use Rattle.c_tables.specs.declared.tables.TheConstants.{PRODUCTIONS}
 use Rattle.analysis.specs.declared.program.Operation.{Operation}
 use Rattle.analysis.specs.declared.program.Operation.TheVariants.{Init, Lock, Unlock}
 

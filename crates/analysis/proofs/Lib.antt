@@ -10,3 +10,7 @@ mod Turns
 mod Exclusion
 mod Phases
 mod Ordered
+mod FormTrees
+mod FormClasses
+mod Supported
+mod SampleTexts

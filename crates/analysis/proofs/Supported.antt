@@ -5,7 +5,7 @@ use Rattle.std.specs.Str.{bytes_eq}
 use Rattle.std.proofs.lemmas.List.Elements.{All-from_recursion}
 use Rattle.ll_core.specs.Trees.{Forest, leaves, leftmost, nestings}
 use Rattle.c_lexer.specs.Tokens.{tokens_of}
-use Rattle.c_grammar.specs.declared.tables.TheConstants.{PRODUCTIONS}
+use Rattle.c_tables.specs.declared.tables.TheConstants.{PRODUCTIONS}
 use Rattle.lexical_laws.specs.Classes.{class_of_word, ClassesAreOfWords}
 use Rattle.analysis.specs.Form.{Program, IsOfForm, words_of, words_in}
 use Rattle.analysis.specs.Faults.{IsParsed, IsSupportedAs}

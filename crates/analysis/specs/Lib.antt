@@ -9,3 +9,4 @@ pub mod Step
 pub mod Runs
 pub mod Samples
 pub mod Laws
+pub mod Premises

@@ -7,6 +7,7 @@ mod form;
 mod laws;
 mod parsed;
 mod position;
+mod premises;
 mod program;
 mod reading;
 
@@ -15,4 +16,5 @@ pub use laws::{
     findings_are_in_order, first_fault_is_one, program_is_one, silence_is_sound, some_run_breaks,
     some_run_returns, supported_has_no_fault,
 };
+pub use premises::{form_is_supported, some_text_has_a_finding, some_text_is_clean};
 pub use program::{Call, Operation};

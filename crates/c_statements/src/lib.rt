@@ -13,8 +13,6 @@ mod simple;
 mod simple_nodes;
 mod statement_nodes;
 mod statements;
-#[cfg(test)]
-mod tests;
 mod translation_unit;
 
 pub use translation_unit::tree;

@@ -1,4 +1,6 @@
-use crate::rows::rows;
+use crate::rows::{
+    external_rows, loop_rows, operand_rows, operator_rows, selection_rows, type_rows,
+};
 use analysis::analyse;
 use misra_base::{CheckStop, refusal_line};
 use std::alloc::{AllocError, Global};
@@ -31,17 +33,46 @@ pub(crate) fn show(rt: &impl Abort, alloc: Global, text: &str, line: &str) -> Re
     Ok(())
 }
 
-#[test]
-fn each_text_of_the_table_is_refused_at_its_place(rt: HostRuntime) -> Result<(), Fail> {
-    let alloc = rt.alloc();
-    assert_eq!(rt; rows().matches(" => ").count(), 282);
-    for row in rows().split('\n') {
+/// Shows that each row's text is refused where the row says, and that there are so many rows.
+fn show_rows(rt: &impl Abort, alloc: Global, rows: &str, count: usize) -> Result<(), Fail> {
+    assert_eq!(rt; rows.matches(" => ").count(), count);
+    for row in rows.split('\n') {
         if let Some((text, refusal)) = row.split_once(" => ") {
             let line = format!(in alloc; "refused {refusal}\n")?;
-            show(&rt, alloc, text, line.as_str())?;
+            show(rt, alloc, text, line.as_str())?;
         }
     }
     Ok(())
+}
+
+#[test]
+fn external_declarations_are_refused_at_their_places(rt: HostRuntime) -> Result<(), Fail> {
+    show_rows(&rt, rt.alloc(), external_rows(), 47)
+}
+
+#[test]
+fn specifiers_and_their_lists_are_refused_at_their_places(rt: HostRuntime) -> Result<(), Fail> {
+    show_rows(&rt, rt.alloc(), type_rows(), 51)
+}
+
+#[test]
+fn initialisers_blocks_and_choices_are_refused_at_their_places(rt: HostRuntime) -> Result<(), Fail> {
+    show_rows(&rt, rt.alloc(), selection_rows(), 47)
+}
+
+#[test]
+fn loops_jumps_and_assignments_are_refused_at_their_places(rt: HostRuntime) -> Result<(), Fail> {
+    show_rows(&rt, rt.alloc(), loop_rows(), 53)
+}
+
+#[test]
+fn operators_are_refused_at_their_places(rt: HostRuntime) -> Result<(), Fail> {
+    show_rows(&rt, rt.alloc(), operator_rows(), 57)
+}
+
+#[test]
+fn operands_are_refused_at_their_places(rt: HostRuntime) -> Result<(), Fail> {
+    show_rows(&rt, rt.alloc(), operand_rows(), 27)
 }
 
 #[test]

@@ -1,8 +1,10 @@
-/// Texts over each alternative of the grammar, a line for each: the text, ` => `, and where it is refused. A text that
-/// is a translation unit of the subset is refused as one that is not built, where it leaves the form of the texts that
-/// are judged; any other at its first token that no translation unit goes on with. The other lines say what is tried.
+//! Texts over each alternative of the grammar, a line for each: the text, ` => `, and where it is refused. A text that
+//! is a translation unit of the subset is refused as one that is not built, where it leaves the form of the texts that
+//! are judged; any other at its first token that no translation unit goes on with. The other lines say what is tried.
+
+/// Of external declarations, objects and declarators.
 #[rattlefmt::skip]
-pub(crate) fn rows() -> &'static str {
+pub(crate) fn external_rows() -> &'static str {
     "\
 // Translation units and external declarations (C11 6.9).
 int x; int y; => U0 1:5 not-built
@@ -53,6 +55,13 @@ int * static p; => U7 1:7 static
 int * const; => U7 1:12 ;
 int * int p; => U7 1:7 int
 int * restrict p; => U6 1:7 restrict
+"
+}
+
+/// Of specifiers, structures and enumerations.
+#[rattlefmt::skip]
+pub(crate) fn type_rows() -> &'static str {
+    "\
 // Declaration specifiers (C11 6.7.1 to 6.7.4).
 extern int a; => U0 1:1 not-built
 inline int f(void); => U0 1:1 not-built
@@ -107,6 +116,13 @@ enum e { A, , B }; => U7 1:13 ,
 enum ; => U7 1:6 ;
 enum e { 2 }; => U7 1:10 2
 enum e { A = 1 = 2 }; => U7 1:16 =
+"
+}
+
+/// Of initialisers, blocks and statements that choose.
+#[rattlefmt::skip]
+pub(crate) fn selection_rows() -> &'static str {
+    "\
 // Initialisers (C11 6.7.9).
 int a[2] = { 1, 2 }; => U0 1:5 not-built
 int a[2] = { 1, 2, }; => U0 1:5 not-built
@@ -157,6 +173,13 @@ int main(void) { switch (x) { case 1: break; break; } } => U7 1:46 break
 int main(void) { switch (x) { case 1: int a; break; } } => U7 1:39 int
 int main(void) { case 1: break; } => U7 1:18 case
 int main(void) { switch (x) { case 1: case 2; } } => U7 1:45 ;
+"
+}
+
+/// Of loops, jumps, assignments and steps.
+#[rattlefmt::skip]
+pub(crate) fn loop_rows() -> &'static str {
+    "\
 // Loops and jumps (C11 6.8.5, 6.8.6).
 int main(void) { while (1) { } } => U0 1:18 not-built
 int main(void) { while (1) ; } => U7 1:28 ;
@@ -212,6 +235,13 @@ int main(void) { --x--; } => U7 1:21 --
 int main(void) { x += += 1; } => U7 1:23 +=
 int main(void) { return x++; } => U7 1:26 ++
 int main(void) { f(); f(1); } => U0 1:18 not-built
+"
+}
+
+/// Of operators between operands and before them.
+#[rattlefmt::skip]
+pub(crate) fn operator_rows() -> &'static str {
+    "\
 // Conditions and operators (C11 6.5.5 to 6.5.15).
 int main(void) { return x ? 1 : 2; } => U0 1:25 not-built
 int main(void) { return x ? y ? 1 : 2 : 3; } => U0 1:25 not-built
@@ -271,6 +301,13 @@ int main(void) { return (int x; } => U7 1:30 x
 int main(void) { return (int){ 1 }; } => U7 1:30 {
 int main(void) { return (); } => U7 1:26 )
 int main(void) { return (int[2])x; } => U7 1:29 [
+"
+}
+
+/// Of operands and what stands behind them.
+#[rattlefmt::skip]
+pub(crate) fn operand_rows() -> &'static str {
+    "\
 // Operands and what stands behind them (C11 6.5.1, 6.5.2).
 int main(void) { return (x); } => U0 1:25 not-built
 int main(void) { return (x)[0].a->b(1); } => U0 1:25 not-built

@@ -1,4 +1,0 @@
-pub mod Expressions
-pub mod Views
-pub mod Statements
-pub mod StatementViews

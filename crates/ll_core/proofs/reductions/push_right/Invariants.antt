@@ -1,7 +1,0 @@
-use Rattle.std.proofs.Common.{◌≡◌, ◌++◌, drop, reverse}
-use Rattle.ll_core.specs.Trees.{right_of}
-use Rattle.ll_core.specs.Postorder.{pending_of}
-use Rattle.ll_core.proofs.reductions.push_right.Given as goal
-
-abbrev pub invariant-loop-i : goal.invariant-loop-i
-invariant-loop-i l = reverse l.stack.items ≡ pending_of (drop l.i (right_of l.production)) ++ reverse l.initial.stack.items
