@@ -1,0 +1,14 @@
+mod Reading
+mod Beginnings
+mod Readers
+mod StatementReaders
+mod Ends
+mod Firsts
+mod Operands
+mod Pointers
+mod Lists
+mod Expressions
+mod Declarations
+mod Simples
+mod Statements
+mod Units
