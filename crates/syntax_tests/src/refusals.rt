@@ -56,7 +56,9 @@ fn specifiers_and_their_lists_are_refused_at_their_places(rt: HostRuntime) -> Re
 }
 
 #[test]
-fn initialisers_blocks_and_choices_are_refused_at_their_places(rt: HostRuntime) -> Result<(), Fail> {
+fn initialisers_blocks_and_choices_are_refused_at_their_places(
+    rt: HostRuntime,
+) -> Result<(), Fail> {
     show_rows(&rt, rt.alloc(), selection_rows(), 47)
 }
 

@@ -45,14 +45,14 @@ module _ (text : List ℕ) where
     initializer_end (D.initial_expression e) ts rest g s behind =
         let inner = expression_end text e ts rest s g 0 (omega arith) behind in
         again text (λ r. r.initializer ts) (D.initial_expression e) rest inner.enough (λ n le.
-          fails _ (ap (λ k. k == 3) (first_expression text e ts rest s)) (bound _ (inner.reads n le) refl))
+        fails _ (ap (λ k. k == 3) (first_expression text e ts rest s)) (bound _ (inner.reads n le) refl))
     initializer_end (D.initial_list place is comma close) ts rest g s behind =
         let p = parts text (printed.initializers is) (spelled.trailing comma ++ at T.RightBrace close ∷ []) s.1 rest (three text _ _ (printed.initializers is) (spelled.trailing comma) (at T.RightBrace close ∷ []) s.4) in
         let inner = initializers_end is comma close s.1 p.between rest g.0 g.1 p.front p.behind in
         let tail = trailing_end text comma close p.between rest p.behind in
         again text (λ r. r.initializer ts) (D.initial_list place is comma close) rest inner.enough (λ n le.
-          holds _ (ap (λ k. kind k == 3) (class_is s.2 s.3.0)) (passed _ s.2 (bound _ (inner.reads n le) (bound _ (tail.reads n) (passed _ tail.closes.2
-          (all_three (λ x y ts. got (D.initial_list x is comma y) ts) s.3.1 tail.closes.3.1 tail.closes.4))))))
+        holds _ (ap (λ k. kind k == 3) (class_is s.2 s.3.0)) (passed _ s.2 (bound _ (inner.reads n le) (bound _ (tail.reads n) (passed _ tail.closes.2
+        (all_three (λ x y ts. got (D.initial_list x is comma y) ts) s.3.1 tail.closes.3.1 tail.closes.4))))))
 
     initializers_end : (is : D.Initializers) (comma : Bool) (close : Place) (ts between rest : List Token) → HasInitializer is → AreGroupedInitializers is
         → Spells text (printed.initializers is) ts between → Spells text (spelled.trailing comma ++ at T.RightBrace close ∷ []) between rest
@@ -69,15 +69,15 @@ module _ (text : List ℕ) where
         → Ends text (λ r. r.initializers ts) is between
     more_initializers_end D.no_initializers comma close ts between rest g s end =
         to text (λ r. r.initializers ts) D.no_initializers s (again text (λ r. r.initializers ts) D.no_initializers ts 0 (λ n le.
-          no_more text D.no_initializers comma close ts rest (subst (λ (us : List Token). Spells text (spelled.trailing comma ++ at T.RightBrace close ∷ []) us rest) (sym s) end)
-          (λ us. S.initializers text (readers text n) us)))
+        no_more text D.no_initializers comma close ts rest (subst (λ (us : List Token). Spells text (spelled.trailing comma ++ at T.RightBrace close ∷ []) us rest) (sym s) end)
+        (λ us. S.initializers text (readers text n) us)))
     more_initializers_end (D.initializer i is) comma close ts between rest g s end =
         let p = parts text (printed.initializer i) (printed.more_initializers is) s.1 between s.4 in
         let first = initializer_end i s.1 p.between g.0 p.front (initializers_weak is comma close p.between between rest p.behind end) in
         let more = more_initializers_end is comma close p.between between rest g.1 p.behind end in
         again text (λ r. r.initializers ts) (D.initializer i is) between (first.enough + more.enough) (λ n le.
-          holds _ (ap (λ k. k == 79) (class_is s.2 s.3)) (passed _ s.2 (fails _ (first_initializer i s.1 p.between p.front)
-          (bound _ (first.reads n (omega (arith, le))) (bound _ (more.reads n (omega (arith, le))) refl)))))
+        holds _ (ap (λ k. k == 79) (class_is s.2 s.3)) (passed _ s.2 (fails _ (first_initializer i s.1 p.between p.front)
+        (bound _ (first.reads n (omega (arith, le))) (bound _ (more.reads n (omega (arith, le))) refl)))))
 
   initialization_end : (o : Option D.InitializationData) (ts rest : List Token) → IsGroupedInitialization o → Spells text (printed.initialization o) ts rest → strength (class_of rest) ≤ 0
       → (class_of rest == 68) ≡ false → Ends text (λ r. S.initialization text r ts) o rest

@@ -44,12 +44,12 @@ module _ (text : List ℕ) where
         let most = first_row_most os in
         let last : strength (class_of rest) ≤ row_of_first os = omega (arith, below, behind) in
         let first = expression_end e ts p.between p.front g.2 (suc (row_of_first os)) (reach e (suc (row_of_first os)) (let h = g.1 in omega (arith, h)) (omega (arith, most)))
-          (first_operation text os (row_of_first os) p.between rest g.3 p.behind last) in
+        (first_operation text os (row_of_first os) p.between rest g.3 p.behind last) in
         let more = operations_end os (row_of_first os) p.between rest most g.3 p.behind last in
         at_row text row (E.binary e os) ts rest below behind
         (again text (λ r. r.expression (row_of_first os) ts) (E.binary e os) rest (first.enough + more.enough) (λ n le.
-          fails _ (not_zero (row_of_first os) g.0) (fails _ (not_most (row_of_first os) most)
-          (bound _ (first.reads n (omega (arith, le))) (bound _ (more.reads n (omega (arith, le))) (ap (λ e. got e rest) (chained_is e os g.0)))))))
+        fails _ (not_zero (row_of_first os) g.0) (fails _ (not_most (row_of_first os) most)
+        (bound _ (first.reads n (omega (arith, le))) (bound _ (more.reads n (omega (arith, le))) (ap (λ e. got e rest) (chained_is e os g.0)))))))
     expression_end (E.conditional c place a b) ts rest s g row below behind =
         let p = parts text (spelled.expression c) (at T.Question place ∷ spelled.expression a ++ any T.Colon ∷ spelled.expression b) ts rest s in
         let q = p.behind in
@@ -60,8 +60,8 @@ module _ (text : List ℕ) where
         let other = expression_end b u.1 rest u.4 g.3 0 (omega arith) (omega (arith, below, behind)) in
         at_row text row (E.conditional c place a b) ts rest below behind
         (again text (λ r. r.expression 0 ts) (E.conditional c place a b) rest (condition.enough + (one.enough + other.enough)) (λ n le.
-          holds _ refl (bound _ (condition.reads n (omega (arith, le))) (holds _ (ap (λ k. k == 65) (class_is q.2 q.3.0))
-          (passed _ q.2 (bound _ (one.reads n (omega (arith, le))) (passed _ u.2 (bound _ (other.reads n (omega (arith, le))) (ap (λ x. got (E.conditional c x a b) rest) q.3.1)))))))))
+        holds _ refl (bound _ (condition.reads n (omega (arith, le))) (holds _ (ap (λ k. k == 65) (class_is q.2 q.3.0))
+        (passed _ q.2 (bound _ (one.reads n (omega (arith, le))) (passed _ u.2 (bound _ (other.reads n (omega (arith, le))) (ap (λ x. got (E.conditional c x a b) rest) q.3.1)))))))))
     expression_end (E.unary place o e) ts rest s g row below behind =
         let inner = expression_end e s.1 rest s.4 g.1 11 (reach e 11 g.0 (omega arith)) (omega (arith, below, behind)) in
         at_row text row (E.unary place o e) ts rest below behind (as_unary text (E.unary place o e) ts rest (record {
@@ -76,9 +76,9 @@ module _ (text : List ℕ) where
         at_row text row (E.sizeof_expression place e) ts rest below behind (as_unary text (E.sizeof_expression place e) ts rest (record {
           enough = inner.enough;
           reads = λ n le.
-            missing _ (ap (row_with unaries) (class_is s.2 s.3.0)) (holds _ (ap (λ k. k == 34) (class_is s.2 s.3.0)) (passed _ s.2 (passed _ u.2
-            (chosen _ (first_expression text e u.1 p.between p.front) (fails _ refl (bound _ (inner.reads n le) (passed _ q.2
-            (both (λ x ts. got (E.sizeof_expression x e) ts) s.3.1 q.4))))))));
+              missing _ (ap (row_with unaries) (class_is s.2 s.3.0)) (holds _ (ap (λ k. k == 34) (class_is s.2 s.3.0)) (passed _ s.2 (passed _ u.2
+              (chosen _ (first_expression text e u.1 p.between p.front) (fails _ refl (bound _ (inner.reads n le) (passed _ q.2
+              (both (λ x ts. got (E.sizeof_expression x e) ts) s.3.1 q.4))))))));
         }))
     expression_end (E.sizeof_type place t) ts rest s g row below behind =
         let u = s.4 in
@@ -88,9 +88,9 @@ module _ (text : List ℕ) where
         at_row text row (E.sizeof_type place t) ts rest below behind (as_unary text (E.sizeof_type place t) ts rest (record {
           enough = inner.enough;
           reads = λ n le.
-            missing _ (ap (row_with unaries) (class_is s.2 s.3.0)) (holds _ (ap (λ k. k == 34) (class_is s.2 s.3.0)) (passed _ s.2 (passed _ u.2
-            (chosen _ (first_type text t u.1 p.between g p.front) (holds _ refl (bound _ (inner.reads n le) (passed _ q.2
-            (both (λ x ts. got (E.sizeof_type x t) ts) s.3.1 q.4))))))));
+              missing _ (ap (row_with unaries) (class_is s.2 s.3.0)) (holds _ (ap (λ k. k == 34) (class_is s.2 s.3.0)) (passed _ s.2 (passed _ u.2
+              (chosen _ (first_type text t u.1 p.between g p.front) (holds _ refl (bound _ (inner.reads n le) (passed _ q.2
+              (both (λ x ts. got (E.sizeof_type x t) ts) s.3.1 q.4))))))));
         }))
     expression_end (E.cast place t e) ts rest s g row below behind =
         let p = parts text (spelled.type_name t) (any T.RightParenthesis ∷ spelled.expression e) s.1 rest s.4 in
@@ -100,9 +100,9 @@ module _ (text : List ℕ) where
         at_row text row (E.cast place t e) ts rest below behind (as_unary text (E.cast place t e) ts rest (record {
           enough = to_type.enough + inner.enough;
           reads = λ n le.
-            missing _ (ap (row_with unaries) (class_is s.2 s.3.0)) (fails _ (ap (λ k. k == 34) (class_is s.2 s.3.0)) (holds _ (ap (λ k. k == 37) (class_is s.2 s.3.0)) (passed _ s.2
-            (chosen _ (first_type text t s.1 p.between g.0 p.front) (holds _ refl (bound _ (to_type.reads n (omega (arith, le))) (passed _ q.2 (bound _ (inner.reads n (omega (arith, le)))
-            (ap (λ x. got (E.cast x t e) rest) s.3.1)))))))));
+              missing _ (ap (row_with unaries) (class_is s.2 s.3.0)) (fails _ (ap (λ k. k == 34) (class_is s.2 s.3.0)) (holds _ (ap (λ k. k == 37) (class_is s.2 s.3.0)) (passed _ s.2
+              (chosen _ (first_type text t s.1 p.between g.0 p.front) (holds _ refl (bound _ (to_type.reads n (omega (arith, le))) (passed _ q.2 (bound _ (inner.reads n (omega (arith, le)))
+              (ap (λ x. got (E.cast x t e) rest) s.3.1)))))))));
         }))
     expression_end (E.postfix e ps) ts rest s g row below behind =
         let p = parts text (spelled.expression e) (spelled.postfixes ps) ts rest s in
@@ -138,9 +138,9 @@ module _ (text : List ℕ) where
         let first = expression_end e s.1 p.between p.front g.2 (suc row) (reach e (suc row) (let h = g.1 in omega (arith, h)) (omega (arith, most))) (first_operation text os row p.between rest g.3 p.behind behind) in
         let more = operations_end os row p.between rest most g.3 p.behind behind in
         again text (λ r. r.operations row ts) (E.operation place o e os) rest (first.enough + more.enough) (λ n le.
-          holds _ (equal (strength (class_of ts)) (suc row) (ap strength (class_is s.2 s.3.0) ∙ binary_strength o ∙ ap suc g.0))
-          (passed _ s.2 (found _ _ (ap (row_with binaries) s.3.0 ∙ binary_is o) (bound _ (first.reads n (omega (arith, le))) (bound _ (more.reads n (omega (arith, le)))
-          (ap (λ x. got (E.operation x o e os) rest) s.3.1))))))
+        holds _ (equal (strength (class_of ts)) (suc row) (ap strength (class_is s.2 s.3.0) ∙ binary_strength o ∙ ap suc g.0))
+        (passed _ s.2 (found _ _ (ap (row_with binaries) s.3.0 ∙ binary_is o) (bound _ (first.reads n (omega (arith, le))) (bound _ (more.reads n (omega (arith, le)))
+        (ap (λ x. got (E.operation x o e os) rest) s.3.1))))))
 
     postfixes_end : (ps : E.Postfixes) (ts rest : List Token) → ArePostfixes ps → Spells text (spelled.postfixes ps) ts rest → strength (class_of rest) ≤ 12
         → Ends text (λ r. r.postfixes ts) ps rest
@@ -157,29 +157,29 @@ module _ (text : List ℕ) where
         let inner = expression_end e s.1 p.between p.front g 0 (omega arith) (weak 36 0 q.2 q.3 (omega arith)) in
         let others = postfixes_from text ps q.4 more in
         again text (λ r. r.postfixes ts) (E.postfix_first (E.index place e) ps) rest (inner.enough + others.enough) (λ n le.
-          holds _ (ap (λ k. k == 35) (class_is s.2 s.3.0)) (passed _ s.2 (bound _ (inner.reads n (omega (arith, le))) (passed _ q.2 (bound _ (others.reads n (omega (arith, le)))
-          (ap (λ x. got (E.postfix_first (E.index x e) ps) rest) s.3.1))))))
+        holds _ (ap (λ k. k == 35) (class_is s.2 s.3.0)) (passed _ s.2 (bound _ (inner.reads n (omega (arith, le))) (passed _ q.2 (bound _ (others.reads n (omega (arith, le)))
+        (ap (λ x. got (E.postfix_first (E.index x e) ps) rest) s.3.1))))))
     postfix_end (E.call place es) ps ts between rest g s more =
         let p = parts text (spelled.arguments es) (any T.RightParenthesis ∷ []) s.1 between s.4 in
         let q = p.behind in
         let inner = arguments_end es s.1 p.between q.0 q.1 q.2 q.3 g p.front in
         let others = postfixes_from text ps q.4 more in
         again text (λ r. r.postfixes ts) (E.postfix_first (E.call place es) ps) rest (inner.enough + others.enough) (λ n le.
-          fails _ (ap (λ k. k == 35) (class_is s.2 s.3.0)) (holds _ (ap (λ k. k == 37) (class_is s.2 s.3.0))
-          (passed _ s.2 (bound _ (inner.reads n (omega (arith, le))) (passed _ q.2 (bound _ (others.reads n (omega (arith, le)))
-          (ap (λ x. got (E.postfix_first (E.call x es) ps) rest) s.3.1)))))))
+        fails _ (ap (λ k. k == 35) (class_is s.2 s.3.0)) (holds _ (ap (λ k. k == 37) (class_is s.2 s.3.0))
+        (passed _ s.2 (bound _ (inner.reads n (omega (arith, le))) (passed _ q.2 (bound _ (others.reads n (omega (arith, le)))
+        (ap (λ x. got (E.postfix_first (E.call x es) ps) rest) s.3.1)))))))
     postfix_end (E.member place w) ps ts between rest g s more =
         let u = s.4 in
         let others = postfixes_from text ps u.4 more in
         again text (λ r. r.postfixes ts) (E.postfix_first (E.member place w) ps) rest others.enough (λ n le.
-          fails _ (ap (λ k. k == 35) (class_is s.2 s.3.0)) (fails _ (ap (λ k. k == 37) (class_is s.2 s.3.0)) (holds _ (ap (λ k. k == 41) (class_is s.2 s.3.0))
-          (passed _ s.2 (passed _ u.2 (bound _ (others.reads n le) (both (λ x w. got (E.postfix_first (E.member x w) ps) rest) s.3.1 (sym u.3.1))))))))
+        fails _ (ap (λ k. k == 35) (class_is s.2 s.3.0)) (fails _ (ap (λ k. k == 37) (class_is s.2 s.3.0)) (holds _ (ap (λ k. k == 41) (class_is s.2 s.3.0))
+        (passed _ s.2 (passed _ u.2 (bound _ (others.reads n le) (both (λ x w. got (E.postfix_first (E.member x w) ps) rest) s.3.1 (sym u.3.1))))))))
     postfix_end (E.arrow place w) ps ts between rest g s more =
         let u = s.4 in
         let others = postfixes_from text ps u.4 more in
         again text (λ r. r.postfixes ts) (E.postfix_first (E.arrow place w) ps) rest others.enough (λ n le.
-          fails _ (ap (λ k. k == 35) (class_is s.2 s.3.0)) (fails _ (ap (λ k. k == 37) (class_is s.2 s.3.0)) (fails _ (ap (λ k. k == 41) (class_is s.2 s.3.0)) (holds _ (ap (λ k. k == 42) (class_is s.2 s.3.0))
-          (passed _ s.2 (passed _ u.2 (bound _ (others.reads n le) (both (λ x w. got (E.postfix_first (E.arrow x w) ps) rest) s.3.1 (sym u.3.1)))))))))
+        fails _ (ap (λ k. k == 35) (class_is s.2 s.3.0)) (fails _ (ap (λ k. k == 37) (class_is s.2 s.3.0)) (fails _ (ap (λ k. k == 41) (class_is s.2 s.3.0)) (holds _ (ap (λ k. k == 42) (class_is s.2 s.3.0))
+        (passed _ s.2 (passed _ u.2 (bound _ (others.reads n le) (both (λ x w. got (E.postfix_first (E.arrow x w) ps) rest) s.3.1 (sym u.3.1)))))))))
 
     arguments_end : (es : E.Expressions) (ts rest : List Token) (v : Token) (after : List Token) → rest ≡ v ∷ after → v.class ≡ 38 → AreArguments es
         → Spells text (spelled.arguments es) ts rest → Ends text (λ r. R.arguments text r ts) es rest
@@ -203,7 +203,7 @@ module _ (text : List ℕ) where
         let first = expression_end x s.1 p.between p.front g.0 0 (omega arith) (more_arguments_weak text es p.between rest p.behind (weak 38 0 e c (omega arith))) in
         let more = more_arguments_end es p.between rest v after e c g.1 p.behind in
         again text (λ r. r.arguments ts) (E.expression x es) rest (first.enough + more.enough) (λ n le.
-          holds _ (ap (λ k. k == 79) (class_is s.2 s.3)) (passed _ s.2 (bound _ (first.reads n (omega (arith, le))) (bound _ (more.reads n (omega (arith, le))) refl))))
+        holds _ (ap (λ k. k == 79) (class_is s.2 s.3)) (passed _ s.2 (bound _ (first.reads n (omega (arith, le))) (bound _ (more.reads n (omega (arith, le))) refl))))
 
     type_end : (t : E.TypeNameData) (ts rest : List Token) → Spells text (spelled.type_name t) ts rest → IsGroupedType t → (v : Token) (after : List Token) → rest ≡ v ∷ after
         → v.class ≡ 38 → Ends text (λ r. R.type_name text r ts) t rest
@@ -221,7 +221,7 @@ module _ (text : List ℕ) where
         let first = specifier_end d ts p.between g.0 p.front (no_brace text ss p.between rest p.behind behind.1) in
         let more = specifiers_end ss p.between rest g.1 p.behind behind in
         again text (λ r. r.specifiers ts) (E.specifier d ss) rest (first.enough + more.enough) (λ n le.
-          holds _ (ap (λ k. k == 2) (first_specifiers text (E.specifier d ss) ts rest tt s)) (bound _ (first.reads n (omega (arith, le))) (bound _ (more.reads n (omega (arith, le))) refl)))
+        holds _ (ap (λ k. k == 2) (first_specifiers text (E.specifier d ss) ts rest tt s)) (bound _ (first.reads n (omega (arith, le))) (bound _ (more.reads n (omega (arith, le))) refl)))
 
     specifier_end : (d : E.SpecifierData) (ts rest : List Token) → IsSpecifier d → Spells text (spelled.specifier d) ts rest → (kind (class_of rest) == 3) ≡ false
         → Ends text (λ r. R.specifier text r ts) d rest
@@ -236,16 +236,16 @@ module _ (text : List ℕ) where
         record {
           enough = 0;
           reads = λ n le. missing _ (ap (row_with keywords) (class_is s.2 s.3.0)) (fails _ (ap (λ k. k == 2) (class_is s.2 s.3.0)) (holds _ (ap (λ k. k == 1) (class_is s.2 s.3.0))
-            (passed _ s.2 (both (λ w ts. got (E.typedef_name w) ts) (sym s.3.1) s.4))));
+              (passed _ s.2 (both (λ w ts. got (E.typedef_name w) ts) (sym s.3.1) s.4))));
         }
     specifier_end (E.structure_reference place w) ts rest g s behind =
         let u = s.4 in
         record {
           enough = 0;
           reads = λ n le.
-            missing _ (ap (row_with keywords) (class_is s.2 s.3.0)) (fails _ (ap (λ k. k == 2) (class_is s.2 s.3.0)) (fails _ (ap (λ k. k == 1) (class_is s.2 s.3.0)) (holds _ (ap (λ k. k == 21) (class_is s.2 s.3.0))
-            (passed _ s.2 (fails _ (ap (λ ts. kind (class_of ts) == 3) u.2 ∙ name_closes u.0.class u.3.0) (passed _ u.2 (fails _ (ap (λ ts. kind (class_of ts) == 3) u.4 ∙ behind)
-            (all_three (λ x w ts. got (E.structure_reference x w) ts) s.3.1 (sym u.3.1) u.4))))))));
+              missing _ (ap (row_with keywords) (class_is s.2 s.3.0)) (fails _ (ap (λ k. k == 2) (class_is s.2 s.3.0)) (fails _ (ap (λ k. k == 1) (class_is s.2 s.3.0)) (holds _ (ap (λ k. k == 21) (class_is s.2 s.3.0))
+              (passed _ s.2 (fails _ (ap (λ k. kind k == 3) (class_is u.2 refl) ∙ name_closes u.0.class u.3.0) (passed _ u.2 (fails _ (ap (λ ts. kind (class_of ts) == 3) u.4 ∙ behind)
+              (all_three (λ x w ts. got (E.structure_reference x w) ts) s.3.1 (sym u.3.1) u.4))))))));
         }
     specifier_end (E.structure_declaration place None ms close) ts rest g s behind =
         let u = s.4 in
@@ -255,9 +255,9 @@ module _ (text : List ℕ) where
         record {
           enough = inner.enough;
           reads = λ n le.
-            missing _ (ap (row_with keywords) (class_is s.2 s.3.0)) (fails _ (ap (λ k. k == 2) (class_is s.2 s.3.0)) (fails _ (ap (λ k. k == 1) (class_is s.2 s.3.0)) (holds _ (ap (λ k. k == 21) (class_is s.2 s.3.0))
-            (passed _ s.2 (holds _ (ap (λ k. kind k == 3) (class_is u.2 u.3)) (passed _ u.2 (bound _ (inner.reads n le) (passed _ q.2
-            (all_three (λ x y ts. got (E.structure_declaration x None ms y) ts) s.3.1 q.3.1 q.4)))))))));
+              missing _ (ap (row_with keywords) (class_is s.2 s.3.0)) (fails _ (ap (λ k. k == 2) (class_is s.2 s.3.0)) (fails _ (ap (λ k. k == 1) (class_is s.2 s.3.0)) (holds _ (ap (λ k. k == 21) (class_is s.2 s.3.0))
+              (passed _ s.2 (holds _ (ap (λ k. kind k == 3) (class_is u.2 u.3)) (passed _ u.2 (bound _ (inner.reads n le) (passed _ q.2
+              (all_three (λ x y ts. got (E.structure_declaration x None ms y) ts) s.3.1 q.3.1 q.4)))))))));
         }
     specifier_end (E.structure_declaration place (Some w) ms close) ts rest g s behind =
         let t = s.4 in
@@ -268,18 +268,18 @@ module _ (text : List ℕ) where
         record {
           enough = inner.enough;
           reads = λ n le.
-            missing _ (ap (row_with keywords) (class_is s.2 s.3.0)) (fails _ (ap (λ k. k == 2) (class_is s.2 s.3.0)) (fails _ (ap (λ k. k == 1) (class_is s.2 s.3.0)) (holds _ (ap (λ k. k == 21) (class_is s.2 s.3.0))
-            (passed _ s.2 (fails _ (ap (λ ts. kind (class_of ts) == 3) t.2 ∙ name_closes t.0.class t.3.0) (passed _ t.2 (holds _ (ap (λ k. kind k == 3) (class_is u.2 u.3)) (passed _ u.2 (bound _ (inner.reads n le) (passed _ q.2
-            (all_four (λ x w y ts. got (E.structure_declaration x (Some w) ms y) ts) s.3.1 (sym t.3.1) q.3.1 q.4)))))))))));
+              missing _ (ap (row_with keywords) (class_is s.2 s.3.0)) (fails _ (ap (λ k. k == 2) (class_is s.2 s.3.0)) (fails _ (ap (λ k. k == 1) (class_is s.2 s.3.0)) (holds _ (ap (λ k. k == 21) (class_is s.2 s.3.0))
+              (passed _ s.2 (fails _ (ap (λ k. kind k == 3) (class_is t.2 refl) ∙ name_closes t.0.class t.3.0) (passed _ t.2 (holds _ (ap (λ k. kind k == 3) (class_is u.2 u.3)) (passed _ u.2 (bound _ (inner.reads n le) (passed _ q.2
+              (all_four (λ x w y ts. got (E.structure_declaration x (Some w) ms y) ts) s.3.1 (sym t.3.1) q.3.1 q.4)))))))))));
         }
     specifier_end (E.enumeration_reference place w) ts rest g s behind =
         let u = s.4 in
         record {
           enough = 0;
           reads = λ n le.
-            missing _ (ap (row_with keywords) (class_is s.2 s.3.0)) (fails _ (ap (λ k. k == 2) (class_is s.2 s.3.0)) (fails _ (ap (λ k. k == 1) (class_is s.2 s.3.0)) (fails _ (ap (λ k. k == 21) (class_is s.2 s.3.0))
-            (passed _ s.2 (fails _ (ap (λ ts. kind (class_of ts) == 3) u.2 ∙ name_closes u.0.class u.3.0) (passed _ u.2 (fails _ (ap (λ ts. kind (class_of ts) == 3) u.4 ∙ behind)
-            (all_three (λ x w ts. got (E.enumeration_reference x w) ts) s.3.1 (sym u.3.1) u.4))))))));
+              missing _ (ap (row_with keywords) (class_is s.2 s.3.0)) (fails _ (ap (λ k. k == 2) (class_is s.2 s.3.0)) (fails _ (ap (λ k. k == 1) (class_is s.2 s.3.0)) (fails _ (ap (λ k. k == 21) (class_is s.2 s.3.0))
+              (passed _ s.2 (fails _ (ap (λ k. kind k == 3) (class_is u.2 refl) ∙ name_closes u.0.class u.3.0) (passed _ u.2 (fails _ (ap (λ ts. kind (class_of ts) == 3) u.4 ∙ behind)
+              (all_three (λ x w ts. got (E.enumeration_reference x w) ts) s.3.1 (sym u.3.1) u.4))))))));
         }
     specifier_end (E.enumeration_declaration place None es comma close) ts rest g s behind =
         let u = s.4 in
@@ -289,9 +289,9 @@ module _ (text : List ℕ) where
         record {
           enough = inner.enough;
           reads = λ n le.
-            missing _ (ap (row_with keywords) (class_is s.2 s.3.0)) (fails _ (ap (λ k. k == 2) (class_is s.2 s.3.0)) (fails _ (ap (λ k. k == 1) (class_is s.2 s.3.0)) (fails _ (ap (λ k. k == 21) (class_is s.2 s.3.0))
-            (passed _ s.2 (holds _ (ap (λ k. kind k == 3) (class_is u.2 u.3)) (passed _ u.2 (bound _ (inner.reads n le) (bound _ (tail.reads n) (passed _ tail.closes.2
-            (all_three (λ x y ts. got (E.enumeration_declaration x None es comma y) ts) s.3.1 tail.closes.3.1 tail.closes.4))))))))));
+              missing _ (ap (row_with keywords) (class_is s.2 s.3.0)) (fails _ (ap (λ k. k == 2) (class_is s.2 s.3.0)) (fails _ (ap (λ k. k == 1) (class_is s.2 s.3.0)) (fails _ (ap (λ k. k == 21) (class_is s.2 s.3.0))
+              (passed _ s.2 (holds _ (ap (λ k. kind k == 3) (class_is u.2 u.3)) (passed _ u.2 (bound _ (inner.reads n le) (bound _ (tail.reads n) (passed _ tail.closes.2
+              (all_three (λ x y ts. got (E.enumeration_declaration x None es comma y) ts) s.3.1 tail.closes.3.1 tail.closes.4))))))))));
         }
     specifier_end (E.enumeration_declaration place (Some w) es comma close) ts rest g s behind =
         let t = s.4 in
@@ -302,10 +302,10 @@ module _ (text : List ℕ) where
         record {
           enough = inner.enough;
           reads = λ n le.
-            missing _ (ap (row_with keywords) (class_is s.2 s.3.0)) (fails _ (ap (λ k. k == 2) (class_is s.2 s.3.0)) (fails _ (ap (λ k. k == 1) (class_is s.2 s.3.0)) (fails _ (ap (λ k. k == 21) (class_is s.2 s.3.0))
-            (passed _ s.2 (fails _ (ap (λ ts. kind (class_of ts) == 3) t.2 ∙ name_closes t.0.class t.3.0) (passed _ t.2 (holds _ (ap (λ k. kind k == 3) (class_is u.2 u.3)) (passed _ u.2 (bound _ (inner.reads n le)
-            (bound _ (tail.reads n) (passed _ tail.closes.2
-            (all_four (λ x w y ts. got (E.enumeration_declaration x (Some w) es comma y) ts) s.3.1 (sym t.3.1) tail.closes.3.1 tail.closes.4))))))))))));
+              missing _ (ap (row_with keywords) (class_is s.2 s.3.0)) (fails _ (ap (λ k. k == 2) (class_is s.2 s.3.0)) (fails _ (ap (λ k. k == 1) (class_is s.2 s.3.0)) (fails _ (ap (λ k. k == 21) (class_is s.2 s.3.0))
+              (passed _ s.2 (fails _ (ap (λ k. kind k == 3) (class_is t.2 refl) ∙ name_closes t.0.class t.3.0) (passed _ t.2 (holds _ (ap (λ k. kind k == 3) (class_is u.2 u.3)) (passed _ u.2 (bound _ (inner.reads n le)
+              (bound _ (tail.reads n) (passed _ tail.closes.2
+              (all_four (λ x w y ts. got (E.enumeration_declaration x (Some w) es comma y) ts) s.3.1 (sym t.3.1) tail.closes.3.1 tail.closes.4))))))))))));
         }
 
     members_end : (ms : E.Members) (ts rest : List Token) (v : Token) (after : List Token) → rest ≡ v ∷ after → v.class ≡ 40 → AreMembers ms
@@ -320,8 +320,8 @@ module _ (text : List ℕ) where
         let listed = declarators_end ds p.between o.between q.0 q.1 q.2 q.3 g.2 g.4 o.front in
         let more = members_end ms q.1 rest v after e c g.5 q.4 in
         again text (λ r. r.members ts) (E.members ss ds ms) rest (first.enough + (listed.enough + more.enough)) (λ n le.
-          holds _ (ap (λ k. k == 2) (first_specifiers text ss ts p.between g.0 p.front)) (bound _ (first.reads n (omega (arith, le))) (bound _ (listed.reads n (omega (arith, le)))
-          (passed _ q.2 (bound _ (more.reads n (omega (arith, le))) refl)))))
+        holds _ (ap (λ k. k == 2) (first_specifiers text ss ts p.between g.0 p.front)) (bound _ (first.reads n (omega (arith, le))) (bound _ (listed.reads n (omega (arith, le)))
+        (passed _ q.2 (bound _ (more.reads n (omega (arith, le))) refl)))))
 
     declarators_end : (ds : E.Declarators) (ts rest : List Token) (v : Token) (after : List Token) → rest ≡ v ∷ after → v.class ≡ 67 → HasDeclarator ds → AreDeclarators ds
         → Spells text (spelled.declarators ds) ts rest → Ends text (λ r. R.declarators text r ts) ds rest
@@ -341,7 +341,7 @@ module _ (text : List ℕ) where
         let first = declarator_end d s.1 p.between g.0 p.front (no_bound text ds p.between rest p.behind (ap (λ k. k == 35) (class_is e c))) in
         let more = more_declarators_end ds p.between rest v after e c g.1 p.behind in
         again text (λ r. r.declarators ts) (E.declarator_first d ds) rest (first.enough + more.enough) (λ n le.
-          holds _ (ap (λ k. k == 79) (class_is s.2 s.3)) (passed _ s.2 (bound _ (first.reads n (omega (arith, le))) (bound _ (more.reads n (omega (arith, le))) refl))))
+        holds _ (ap (λ k. k == 79) (class_is s.2 s.3)) (passed _ s.2 (bound _ (first.reads n (omega (arith, le))) (bound _ (more.reads n (omega (arith, le))) refl))))
 
     pub declarator_end : (d : E.DeclaratorData) (ts rest : List Token) → IsDeclarator d → Spells text (spelled.declarator d) ts rest → (class_of rest == 35) ≡ false
         → Ends text (λ r. R.declarator text r ts) d rest
@@ -363,7 +363,7 @@ module _ (text : List ℕ) where
         let first = bound_end b ts p.between g.0 p.front in
         let more = bounds_end bs p.between rest g.1 p.behind behind in
         again text (λ r. r.bounds ts) (E.bound_first b bs) rest (first.enough + more.enough) (λ n le.
-          holds _ (ap (λ k. k == 35) (first_bound b ts p.between p.front)) (bound _ (first.reads n (omega (arith, le))) (bound _ (more.reads n (omega (arith, le))) refl)))
+        holds _ (ap (λ k. k == 35) (first_bound b ts p.between p.front)) (bound _ (first.reads n (omega (arith, le))) (bound _ (more.reads n (omega (arith, le))) refl)))
 
     pub bound_end : (b : E.BoundData) (ts rest : List Token) → IsBound b → Spells text (spelled.bound b) ts rest → Ends text (λ r. R.bound text r ts) b rest
     bound_end (E.bound m close) ts rest g s =
@@ -402,7 +402,7 @@ module _ (text : List ℕ) where
         → Ends text (λ r. r.enumerators ts) es between
     more_enumerators_end E.no_enumerators comma close ts between rest g s end =
         to text (λ r. r.enumerators ts) E.no_enumerators s (again text (λ r. r.enumerators ts) E.no_enumerators ts 0 (λ n le.
-          no_more text E.no_enumerators comma close ts rest (subst (λ (us : List Token). Spells text (spelled.trailing comma ++ at T.RightBrace close ∷ []) us rest) (sym s) end) (λ us. R.enumerators text (readers text n) us)))
+        no_more text E.no_enumerators comma close ts rest (subst (λ (us : List Token). Spells text (spelled.trailing comma ++ at T.RightBrace close ∷ []) us rest) (sym s) end) (λ us. R.enumerators text (readers text n) us)))
     more_enumerators_end (E.enumerator w m es) comma close ts between rest g s end =
         let u = s.4 in
         let p = parts text (spelled.initial m) (spelled.more_enumerators es) u.1 between u.4 in
@@ -410,8 +410,8 @@ module _ (text : List ℕ) where
         let first = initial_end m u.1 p.between g.0 p.front behind.0 behind.1 in
         let more = more_enumerators_end es comma close p.between between rest g.1 p.behind end in
         again text (λ r. r.enumerators ts) (E.enumerator w m es) between (first.enough + more.enough) (λ n le.
-          holds _ (ap (λ k. k == 79) (class_is s.2 s.3)) (passed _ s.2 (fails _ (ap (λ k. kind k == 4) (class_is u.2 u.3.0)) (passed _ u.2 (bound _ (first.reads n (omega (arith, le)))
-          (bound _ (more.reads n (omega (arith, le))) (ap (λ w. got (E.enumerator w m es) between) (sym u.3.1))))))))
+        holds _ (ap (λ k. k == 79) (class_is s.2 s.3)) (passed _ s.2 (fails _ (ap (λ k. kind k == 4) (class_is u.2 u.3.0)) (passed _ u.2 (bound _ (first.reads n (omega (arith, le)))
+        (bound _ (more.reads n (omega (arith, le))) (ap (λ w. got (E.enumerator w m es) between) (sym u.3.1))))))))
 
     initial_end : (m : E.MaybeExpression) (ts rest : List Token) → IsMaybe m → Spells text (spelled.initial m) ts rest → strength (class_of rest) ≤ 0 → (class_of rest == 68) ≡ false
         → Ends text (λ r. R.initial text r ts) m rest

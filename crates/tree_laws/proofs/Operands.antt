@@ -22,8 +22,8 @@ no_class k n c h g = not_equal k c (λ e. let same = ap strength e in omega (ari
 pub no_postfixes_end : (text : List ℕ) (ts : List Token) → strength (class_of ts) ≤ 12 → Ends text (λ r. r.postfixes ts) Expressions.no_postfixes ts
 no_postfixes_end text ts h =
     again text (λ r. r.postfixes ts) Expressions.no_postfixes ts 0 (λ n le.
-      fails _ (no_class (class_of ts) 12 35 h (omega arith)) (fails _ (no_class (class_of ts) 12 37 h (omega arith))
-      (fails _ (no_class (class_of ts) 12 41 h (omega arith)) (fails _ (no_class (class_of ts) 12 42 h (omega arith)) refl))))
+    fails _ (no_class (class_of ts) 12 35 h (omega arith)) (fails _ (no_class (class_of ts) 12 37 h (omega arith))
+    (fails _ (no_class (class_of ts) 12 41 h (omega arith)) (fails _ (no_class (class_of ts) 12 42 h (omega arith)) refl))))
 
 -- an expression is read at each row below its own
 step_down : (text : List ℕ) (row : ℕ) (e : Expressions.ExpressionData) (ts rest : List Token) → suc row ≤ 11 → strength (class_of rest) ≤ row
@@ -33,8 +33,8 @@ step_down text zero e ts rest most behind h =
 step_down text (suc row) e ts rest most behind h =
     let none = no_operations_end text (suc row) rest behind in
     again text (λ r. r.expression (suc row) ts) e rest (h.enough + none.enough) (λ n le.
-      fails _ (not_equal (suc row) 0 (λ e. omega (arith, e))) (fails _ (not_equal (suc row) 11 (λ e. omega (arith, e, most)))
-      (bound _ (h.reads n (omega (arith, le))) (bound _ (none.reads n (omega (arith, le))) refl))))
+    fails _ (not_equal (suc row) 0 (λ e. omega (arith, e))) (fails _ (not_equal (suc row) 11 (λ e. omega (arith, e, most)))
+    (bound _ (h.reads n (omega (arith, le))) (bound _ (none.reads n (omega (arith, le))) refl))))
 
 down : (text : List ℕ) (steps row top : ℕ) (e : Expressions.ExpressionData) (ts rest : List Token) → row + steps ≡ top → top ≤ 11 → strength (class_of rest) ≤ row
     → Ends text (λ r. r.expression top ts) e rest → Ends text (λ r. r.expression row ts) e rest
@@ -58,10 +58,10 @@ word_end text k t e ps ts more rest tokens class no_sign no_size no_bracket is h
     record {
       enough = h.enough;
       reads = λ n le.
-        missing _ (ap (row_with unaries) (class_is tokens class) ∙ no_sign)
-        (fails _ (ap (λ c. c == 34) (class_is tokens class) ∙ no_size)
-        (fails _ (ap (λ c. c == 37) (class_is tokens class) ∙ no_bracket)
-        (passed _ tokens (bound _ (h.reads n le) (ap (λ c. got (with_postfixes (atom c (word_of text t)) ps) rest) class ∙ ap (λ e. got (with_postfixes e ps) rest) is)))));
+          missing _ (ap (row_with unaries) (class_is tokens class) ∙ no_sign)
+          (fails _ (ap (λ c. c == 34) (class_is tokens class) ∙ no_size)
+          (fails _ (ap (λ c. c == 37) (class_is tokens class) ∙ no_bracket)
+          (passed _ tokens (bound _ (h.reads n le) (ap (λ c. got (with_postfixes (atom c (word_of text t)) ps) rest) class ∙ ap (λ e. got (with_postfixes e ps) rest) is)))));
     }
 
 -- an expression in brackets and what stands behind it
@@ -72,10 +72,10 @@ bracket_end text t v e ps ts more between after rest tokens class begins closes 
     record {
       enough = inner.enough + h.enough;
       reads = λ n le.
-        missing _ (ap (row_with unaries) (class_is tokens class))
-        (fails _ (ap (λ c. c == 34) (class_is tokens class))
-        (holds _ (ap (λ c. c == 37) (class_is tokens class))
-        (passed _ tokens (chosen _ begins (fails _ refl (bound _ (inner.reads n (omega (arith, le))) (passed _ closes (bound _ (h.reads n (omega (arith, le))) refl))))))));
+          missing _ (ap (row_with unaries) (class_is tokens class))
+          (fails _ (ap (λ c. c == 34) (class_is tokens class))
+          (holds _ (ap (λ c. c == 37) (class_is tokens class))
+          (passed _ tokens (chosen _ begins (fails _ refl (bound _ (inner.reads n (omega (arith, le))) (passed _ closes (bound _ (h.reads n (omega (arith, le))) refl))))))));
     }
 
 pub whole : (text : List ℕ) (f : Readers → Got Expressions.ExpressionData) (e : Expressions.ExpressionData) (ps : Expressions.Postfixes) (rest : List Token) → HasPostfix ps

@@ -17,7 +17,7 @@ qualifiers_end text [] ts rest s behind =
 qualifiers_end text (q ∷ qs) ts rest s behind =
     let more = qualifiers_end text qs s.1 rest s.4 behind in
     again text (λ r. r.qualifiers ts) (q ∷ qs) rest more.enough (λ n le.
-      found _ _ (ap (row_with qualifiers_of) (class_is s.2 s.3) ∙ qualifier_is q) (passed _ s.2 (bound _ (more.reads n le) refl)))
+    found _ _ (ap (row_with qualifiers_of) (class_is s.2 s.3) ∙ qualifier_is q) (passed _ s.2 (bound _ (more.reads n le) refl)))
 
 pub pointers_end : (text : List ℕ) (ps : List Expressions.PointerData) (ts rest : List Token) → Spells text (spelled.pointers ps) ts rest → NoPointer rest
     → Ends text (λ r. r.pointers ts) ps rest
@@ -28,5 +28,5 @@ pointers_end text (p ∷ ps) ts rest s behind =
     let here = qualifiers_end text p.qualifiers s.1 cut.between cut.front (no_qualifier text ps cut.between rest cut.behind behind.0) in
     let more = pointers_end text ps cut.between rest cut.behind behind in
     again text (λ r. r.pointers ts) (p ∷ ps) rest (here.enough + more.enough) (λ n le.
-      holds _ (ap (λ k. k == 46) (class_is s.2 s.3.0))
-      (passed _ s.2 (bound _ (here.reads n (omega (arith, le))) (bound _ (more.reads n (omega (arith, le))) (ap (λ x. got (record { place = x; qualifiers = p.qualifiers } ∷ ps) rest) s.3.1)))))
+    holds _ (ap (λ k. k == 46) (class_is s.2 s.3.0))
+    (passed _ s.2 (bound _ (here.reads n (omega (arith, le))) (bound _ (more.reads n (omega (arith, le))) (ap (λ x. got (record { place = x; qualifiers = p.qualifiers } ∷ ps) rest) s.3.1)))))

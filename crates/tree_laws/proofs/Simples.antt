@@ -87,14 +87,14 @@ module _ (text : List ℕ) where
       record {
         enough = target.enough + value.enough;
         reads = λ n le. fails _ (ap (λ k. k == 5) (first_expression text t ts p.between p.front)) (bound _ (target.reads n (omega (arith, le)))
-          (found _ _ (ap (row_with assignments) (class_is q.2 q.3.0) ∙ assignment_is o) (passed _ q.2 (bound _ (value.reads n (omega (arith, le))) (ap (λ x. got (D.assignment t x o v) rest) q.3.1)))));
+            (found _ _ (ap (row_with assignments) (class_is q.2 q.3.0) ∙ assignment_is o) (passed _ q.2 (bound _ (value.reads n (omega (arith, le))) (ap (λ x. got (D.assignment t x o v) rest) q.3.1)))));
       }
   simple_end (D.prefix_step place o e) ts rest g s behind =
       let inner = expression_end text e s.1 rest s.4 g.1 11 (reach e 11 g.0 (omega arith)) (let h = behind.calm in omega (arith, h)) in
       record {
         enough = inner.enough;
         reads = λ n le. holds _ (ap (λ k. kind k == 5) (class_is s.2 s.3.0) ∙ ap (λ k. k == 5) (step_kind o)) (passed _ s.2 (bound _ (inner.reads n le)
-          (both (λ x o. got (D.prefix_step x o e) rest) s.3.1 (ap step_of s.3.0 ∙ step_is o))));
+            (both (λ x o. got (D.prefix_step x o e) rest) s.3.1 (ap step_of s.3.0 ∙ step_is o))));
       }
   simple_end (D.postfix_step e place o) ts rest g s behind =
       let p = parts text (spelled.expression e) (at (step_sign o) place ∷ []) ts rest s in
@@ -103,8 +103,8 @@ module _ (text : List ℕ) where
       record {
         enough = inner.enough;
         reads = λ n le. fails _ (ap (λ k. k == 5) (first_expression text e ts p.between p.front)) (bound _ (inner.reads n le)
-          (missing _ (ap (row_with assignments) (class_is q.2 q.3.0) ∙ no_assignment o) (holds _ (ap (λ k. kind k == 5) (class_is q.2 q.3.0) ∙ ap (λ k. k == 5) (step_kind o)) (passed _ q.2
-          (all_three (λ x o ts. got (D.postfix_step e x o) ts) q.3.1 (ap step_of q.3.0 ∙ step_is o) q.4)))));
+            (missing _ (ap (row_with assignments) (class_is q.2 q.3.0) ∙ no_assignment o) (holds _ (ap (λ k. kind k == 5) (class_is q.2 q.3.0) ∙ ap (λ k. k == 5) (step_kind o)) (passed _ q.2
+            (all_three (λ x o ts. got (D.postfix_step e x o) ts) q.3.1 (ap step_of q.3.0 ∙ step_is o) q.4)))));
       }
 
   pub optional_expression_end : (o : Option E.ExpressionData) (ts rest : List Token) (v : Token) (after : List Token) → rest ≡ v ∷ after → v.class ≡ 67 → IsGroupedOption o
@@ -149,7 +149,7 @@ module _ (text : List ℕ) where
       record {
         enough = first.enough + (stars.enough + value.enough);
         reads = λ n le. chosen _ (first_specifiers text ss ts p.between g.0.0 p.front) (bound _ (first.reads n (omega (arith, le))) (bound _ (stars.reads n (omega (arith, le)))
-          (passed _ q.2 (passed _ u.2 (bound _ (value.reads n (omega (arith, le))) (both (λ w y. got (Some (D.start_declaration ss ps w y x)) rest) (sym q.3.1) u.3.1))))));
+            (passed _ q.2 (passed _ u.2 (bound _ (value.reads n (omega (arith, le))) (both (λ w y. got (Some (D.start_declaration ss ps w y x)) rest) (sym q.3.1) u.3.1))))));
       }
 
   pub leave_end : (l : D.LeaveData) (ts rest : List Token) → IsGroupedLeave l → Spells text (printed.leave l) ts rest → Ends text (λ r. S.leave text r ts) l rest
@@ -181,5 +181,5 @@ module _ (text : List ℕ) where
       let value = expression_end text l.value s.1 p.between p.front g.0 0 (omega arith) (weak 66 0 q.2 q.3 (omega arith)) in
       let more = labels_end ls q.1 rest g.1 q.4 behind in
       again text (λ r. r.labels ts) (l ∷ ls) rest (value.enough + more.enough) (λ n le.
-        holds _ (ap (λ k. kind k == 16) (class_is s.2 s.3.0)) (passed _ s.2 (bound _ (value.reads n (omega (arith, le))) (passed _ q.2 (bound _ (more.reads n (omega (arith, le)))
-        (ap (λ x. got (record { place = x; value = l.value } ∷ ls) rest) s.3.1))))))
+      holds _ (ap (λ k. kind k == 16) (class_is s.2 s.3.0)) (passed _ s.2 (bound _ (value.reads n (omega (arith, le))) (passed _ q.2 (bound _ (more.reads n (omega (arith, le)))
+      (ap (λ x. got (record { place = x; value = l.value } ∷ ls) rest) s.3.1))))))

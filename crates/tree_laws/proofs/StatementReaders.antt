@@ -81,9 +81,9 @@ module _ (text : List ℕ) (r : Readers) where
   abbrev pub start : List Token → Got (Option Statements.ForStartData)
   start ts =
       by (kind (class_of ts)) (λ k.
-        cond (k == 1) (bind (simple ts) (λ s ts. got (Some (Statements.start_simple s)) ts))
-        (cond (k == 5) (bind (simple ts) (λ s ts. got (Some (Statements.start_simple s)) ts))
-        (cond (k == 2) (declared_start ts) (got None ts))))
+      cond (k == 1) (bind (simple ts) (λ s ts. got (Some (Statements.start_simple s)) ts))
+      (cond (k == 5) (bind (simple ts) (λ s ts. got (Some (Statements.start_simple s)) ts))
+      (cond (k == 2) (declared_start ts) (got None ts))))
 
   abbrev pub labels : List Token → Got (List Statements.CaseLabelData)
   labels ts =

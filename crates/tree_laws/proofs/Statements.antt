@@ -108,7 +108,7 @@ module _ (text : List ℕ) where
         let q = p.behind in
         let inner = items_end is s.1 p.between q.0 q.1 q.2 q.3.0 g p.front in
         again text (λ r. r.block ts) (D.block place is close) rest inner.enough (λ n le.
-          passed _ s.2 (bound _ (inner.reads n le) (passed _ q.2 (all_three (λ x y ts. got (D.block x is y) ts) s.3.1 q.3.1 q.4))))
+        passed _ s.2 (bound _ (inner.reads n le) (passed _ q.2 (all_three (λ x y ts. got (D.block x is y) ts) s.3.1 q.3.1 q.4))))
 
     items_end : (is : D.Items) (ts rest : List Token) (v : Token) (after : List Token) → rest ≡ v ∷ after → v.class ≡ 40 → AreGroupedItems is → Spells text (printed.items is) ts rest
         → Ends text (λ r. r.items ts) is rest
@@ -119,7 +119,7 @@ module _ (text : List ℕ) where
         let first = item_end i ts p.between g.0 p.front (items_go_on is p.between rest v after e c g.1 p.behind) in
         let more = items_end is p.between rest v after e c g.1 p.behind in
         again text (λ r. r.items ts) (D.item_first i is) rest (first.enough + more.enough) (λ n le.
-          fails _ (first_item i ts p.between g.0 p.front).0 (bound _ (first.reads n (omega (arith, le))) (bound _ (more.reads n (omega (arith, le))) refl)))
+        fails _ (first_item i ts p.between g.0 p.front).0 (bound _ (first.reads n (omega (arith, le))) (bound _ (more.reads n (omega (arith, le))) refl)))
 
     item_end : (i : D.ItemData) (ts rest : List Token) → IsGroupedItem i → Spells text (printed.item i) ts rest → (class_of rest == 24) ≡ false → Ends text (λ r. S.item text r ts) i rest
     item_end (D.declaration_item d) ts rest g s behind =
@@ -156,7 +156,7 @@ module _ (text : List ℕ) where
         record {
           enough = condition.enough + inner.enough;
           reads = λ n le. chosen _ (kind_is 25 s.2 s.3.0) (passed _ s.2 (passed _ u.2 (bound _ (condition.reads n (omega (arith, le))) (passed _ q.2 (bound _ (inner.reads n (omega (arith, le)))
-            (ap (λ y. got (D.while_statement y x b) rest) s.3.1))))));
+              (ap (λ y. got (D.while_statement y x b) rest) s.3.1))))));
         }
     statement_end (D.do_statement place b while_place x) ts rest g s behind =
         let p = parts text (printed.block b) (at T.While while_place ∷ any T.LeftParenthesis ∷ spelled.expression x ++ any T.RightParenthesis ∷ any T.Semicolon ∷ []) s.1 rest (three text _ _ (printed.block b) (at T.While while_place ∷ any T.LeftParenthesis ∷ spelled.expression x) (any T.RightParenthesis ∷ any T.Semicolon ∷ []) s.4) in
@@ -170,7 +170,7 @@ module _ (text : List ℕ) where
         record {
           enough = inner.enough + condition.enough;
           reads = λ n le. chosen _ (kind_is 26 s.2 s.3.0) (passed _ s.2 (bound _ (inner.reads n (omega (arith, le))) (passed _ q.2 (passed _ u.2 (bound _ (condition.reads n (omega (arith, le)))
-            (passed _ v.2 (passed _ w.2 (all_three (λ y z ts. got (D.do_statement y b z x) ts) s.3.1 q.3.1 w.4))))))));
+              (passed _ v.2 (passed _ w.2 (all_three (λ y z ts. got (D.do_statement y b z x) ts) s.3.1 q.3.1 w.4))))))));
         }
     statement_end (D.for_statement place o x t b) ts rest g s behind =
         let u = s.4 in
@@ -187,7 +187,7 @@ module _ (text : List ℕ) where
         record {
           enough = starting.enough + (condition.enough + (step.enough + inner.enough));
           reads = λ n le. chosen _ (kind_is 27 s.2 s.3.0) (passed _ s.2 (passed _ u.2 (bound _ (starting.reads n (omega (arith, le))) (passed _ v.2 (bound _ (condition.reads n (omega (arith, le)))
-            (passed _ w.2 (bound _ (step.reads n (omega (arith, le))) (passed _ y.2 (bound _ (inner.reads n (omega (arith, le))) (ap (λ z. got (D.for_statement z o x t b) rest) s.3.1))))))))));
+              (passed _ w.2 (bound _ (step.reads n (omega (arith, le))) (passed _ y.2 (bound _ (inner.reads n (omega (arith, le))) (ap (λ z. got (D.for_statement z o x t b) rest) s.3.1))))))))));
         }
     statement_end (D.switch_statement place x cs d close) ts rest g s behind =
         let u = s.4 in
@@ -203,7 +203,7 @@ module _ (text : List ℕ) where
         record {
           enough = value.enough + (listed.enough + other.enough);
           reads = λ n le. chosen _ (kind_is 28 s.2 s.3.0) (passed _ s.2 (passed _ u.2 (bound _ (value.reads n (omega (arith, le))) (passed _ v.2 (passed _ w.2 (bound _ (listed.reads n (omega (arith, le)))
-            (bound _ (other.reads n (omega (arith, le))) (passed _ y.2 (all_three (λ z q ts. got (D.switch_statement z x cs d q) ts) s.3.1 y.3.1 y.4)))))))));
+              (bound _ (other.reads n (omega (arith, le))) (passed _ y.2 (all_three (λ z q ts. got (D.switch_statement z x cs d q) ts) s.3.1 y.3.1 y.4)))))))));
         }
     statement_end (D.continue_statement place) ts rest g s behind =
         let u = s.4 in
@@ -231,8 +231,8 @@ module _ (text : List ℕ) where
         let inner = block_end b q.1 c.between g.1 c.front in
         let other = otherwise_end o c.between rest g.2 c.behind behind in
         again text (λ r. r.branch ts) (D.if_then place x b o) rest (condition.enough + (inner.enough + other.enough)) (λ n le.
-          passed _ s.2 (passed _ u.2 (bound _ (condition.reads n (omega (arith, le))) (passed _ q.2 (bound _ (inner.reads n (omega (arith, le))) (bound _ (other.reads n (omega (arith, le)))
-          (ap (λ y. got (D.if_then y x b o) rest) s.3.1)))))))
+        passed _ s.2 (passed _ u.2 (bound _ (condition.reads n (omega (arith, le))) (passed _ q.2 (bound _ (inner.reads n (omega (arith, le))) (bound _ (other.reads n (omega (arith, le)))
+        (ap (λ y. got (D.if_then y x b o) rest) s.3.1)))))))
 
     otherwise_end : (o : D.MaybeOtherwise) (ts rest : List Token) → IsGroupedElse o → Spells text (printed.maybe_otherwise o) ts rest → (class_of rest == 24) ≡ false
         → Ends text (λ r. S.maybe_otherwise text r ts) o rest
@@ -262,8 +262,8 @@ module _ (text : List ℕ) where
         let inner = body_end b p.between q.between g.2 q.front in
         let more = clauses_end cs q.between rest g.3 q.behind behind in
         again text (λ r. r.clauses ts) (D.clause_first ls b cs) rest (first.enough + (inner.enough + more.enough)) (λ n le.
-          holds _ (ap (λ k. k == 16) (first_labels ls ts p.between g.0 p.front)) (bound _ (first.reads n (omega (arith, le))) (bound _ (inner.reads n (omega (arith, le)))
-          (bound _ (more.reads n (omega (arith, le))) refl))))
+        holds _ (ap (λ k. k == 16) (first_labels ls ts p.between g.0 p.front)) (bound _ (first.reads n (omega (arith, le))) (bound _ (inner.reads n (omega (arith, le)))
+        (bound _ (more.reads n (omega (arith, le))) refl))))
 
     default_end : (d : D.MaybeBody) (ts rest : List Token) (v : Token) (after : List Token) → rest ≡ v ∷ after → v.class ≡ 40 → IsGroupedDefault d → Spells text (printed.default d) ts rest
         → Ends text (λ r. S.default text r ts) d rest
@@ -289,11 +289,11 @@ module _ (text : List ℕ) where
         here (inl k) = again text (λ r. r.statements ts) D.no_statements between 0 (λ n le. holds _ (ap (λ ts. kind (class_of ts) == 12) s ∙ ap (λ k. k == 12) k) (ap (λ ts. got D.no_statements ts) s))
         here (inr k) =
             again text (λ r. r.statements ts) D.no_statements between 0 (λ n le.
-              fails _ (ap (λ ts. kind (class_of ts) == 12) s ∙ ap (λ k. k == 12) k) (holds _ (ap (λ ts. kind (class_of ts) == 13) s ∙ ap (λ k. k == 13) k) (ap (λ ts. got D.no_statements ts) s)))
+            fails _ (ap (λ ts. kind (class_of ts) == 12) s ∙ ap (λ k. k == 12) k) (holds _ (ap (λ ts. kind (class_of ts) == 13) s ∙ ap (λ k. k == 13) k) (ap (λ ts. got D.no_statements ts) s)))
     statements_end (D.statement_first d ss) l ts between rest g s t =
         let p = parts text (printed.statement d) (printed.statements ss) ts between s in
         let first = statement_end d ts p.between g.0 p.front (statements_go_on ss l p.between between rest p.behind t) in
         let more = statements_end ss l p.between between rest g.1 p.behind t in
         let k = first_statement d ts p.between p.front in
         again text (λ r. r.statements ts) (D.statement_first d ss) between (first.enough + more.enough) (λ n le.
-          fails _ k.1 (fails _ k.2 (bound _ (first.reads n (omega (arith, le))) (bound _ (more.reads n (omega (arith, le))) refl))))
+        fails _ k.1 (fails _ k.2 (bound _ (first.reads n (omega (arith, le))) (bound _ (more.reads n (omega (arith, le))) refl))))

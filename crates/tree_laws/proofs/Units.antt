@@ -61,12 +61,12 @@ module _ (text : List ℕ) where
       record {
         enough = first.enough + stars.enough;
         reads = λ n le. bound _ (first.reads n (omega (arith, le))) (bound _ (stars.reads n (omega (arith, le))) (fails _ (ap (λ ts. class_of ts == 0) q.behind ∙ behind.no_name)
-          (ap (λ ts. got (record { specifiers = ss; pointers = ps; name = None; bound = None }) ts) q.behind)));
+            (ap (λ ts. got (record { specifiers = ss; pointers = ps; name = None; bound = None }) ts) q.behind)));
       }
   parameter_end ss ps None (Some b) ts rest g h s behind = absurd h
   parameter_end ss ps (Some w) o ts rest g h s behind =
       let p = parts text (spelled.specifiers ss) ((spelled.pointers ps ++ word T.Identifier w ∷ []) ++ whole.optional_bound o) ts rest
-        (four text _ _ (spelled.specifiers ss) (spelled.pointers ps) (word T.Identifier w ∷ []) (whole.optional_bound o) s) in
+      (four text _ _ (spelled.specifiers ss) (spelled.pointers ps) (word T.Identifier w ∷ []) (whole.optional_bound o) s) in
       let c = parts text (spelled.pointers ps) (word T.Identifier w ∷ whole.optional_bound o) p.between rest (three text _ _ (spelled.pointers ps) (word T.Identifier w ∷ []) (whole.optional_bound o) p.behind) in
       let q = c.behind in
       let first = specifiers_end text ss ts p.between g.1 p.front (kind_closes _ (pointers_begin text ps p.between c.between c.front (kind_is 0 q.2 q.3.0))) in
@@ -75,7 +75,7 @@ module _ (text : List ℕ) where
       record {
         enough = first.enough + (stars.enough + size.enough);
         reads = λ n le. bound _ (first.reads n (omega (arith, le))) (bound _ (stars.reads n (omega (arith, le))) (holds _ (ap (λ k. k == 0) (class_is q.2 q.3.0))
-          (passed _ q.2 (bound _ (size.reads n (omega (arith, le))) (ap (λ w. got (record { specifiers = ss; pointers = ps; name = Some w; bound = o }) rest) (sym q.3.1))))));
+            (passed _ q.2 (bound _ (size.reads n (omega (arith, le))) (ap (λ w. got (record { specifiers = ss; pointers = ps; name = Some w; bound = o }) rest) (sym q.3.1))))));
       }
 
   parameters_behind : (ps : List D.ParameterData) (ts rest : List Token) (v : Token) (after : List Token) → rest ≡ v ∷ after → v.class ≡ 38 → Spells text (whole.more_parameters ps) ts rest → IsBehind ts
@@ -91,7 +91,7 @@ module _ (text : List ℕ) where
       let first = parameter_end p.specifiers p.pointers p.name p.bound s.1 cut.between g.0.0 g.0.1 cut.front (parameters_behind ps cut.between rest v after e c cut.behind) in
       let more = more_parameters_end ps cut.between rest v after e c g.1 cut.behind in
       again text (λ r. r.parameters ts) (p ∷ ps) rest (first.enough + more.enough) (λ n le.
-        holds _ (ap (λ k. k == 79) (class_is s.2 s.3)) (passed _ s.2 (bound _ (first.reads n (omega (arith, le))) (bound _ (more.reads n (omega (arith, le))) refl))))
+      holds _ (ap (λ k. k == 79) (class_is s.2 s.3)) (passed _ s.2 (bound _ (first.reads n (omega (arith, le))) (bound _ (more.reads n (omega (arith, le))) refl))))
 
   parameters_end : (ps : List D.ParameterData) (ts rest : List Token) (v : Token) (after : List Token) → rest ≡ v ∷ after → v.class ≡ 38 → HasParameter ps → AreGroupedParameters ps
       → Spells text (whole.parameters ps) ts rest → Ends text (λ r. S.parameters text r ts) ps rest
@@ -139,7 +139,7 @@ module _ (text : List ℕ) where
       → Spells text ((spelled.declarator d ++ printed.initialization o) ++ printed.more_objects ds) ts rest → Named ts
   named_object (E.declarator ps w bs) o ds ts rest v after e c s =
       let a = parts text (spelled.declarator (E.declarator ps w bs)) (printed.initialization o ++ printed.more_objects ds) ts rest
-        (three text _ _ (spelled.declarator (E.declarator ps w bs)) (printed.initialization o) (printed.more_objects ds) s) in
+      (three text _ _ (spelled.declarator (E.declarator ps w bs)) (printed.initialization o) (printed.more_objects ds) s) in
       let b = parts text (printed.initialization o) (printed.more_objects ds) a.between rest a.behind in
       let p = parts text (spelled.pointers ps) (word T.Identifier w ∷ spelled.bounds bs) ts a.between a.front in
       let q = p.behind in
@@ -169,11 +169,11 @@ module _ (text : List ℕ) where
       let listed = declared_end text (d ∷ ds) ts p.between q.0 q.1 q.2 q.3 g p.front in
       let named = named_object d.declarator d.initialization ds ts p.between q.0 q.1 q.2 q.3 p.front in
       let stars = pointers_end text named.stars ts named.between named.front
-        (ap (row_with qualifiers_of) (class_is named.tokens named.class), ap (λ k. k == 46) (class_is named.tokens named.class)) in
+      (ap (row_with qualifiers_of) (class_is named.tokens named.class), ap (λ k. k == 46) (class_is named.tokens named.class)) in
       record {
         enough = listed.enough + stars.enough;
         reads = λ n le. fails _ (ap (λ k. k == 15) (first_object text d ds ts p.between p.front)) (bound _ (stars.reads n (omega (arith, le))) (passed _ named.tokens (fails _ named.no_function
-          (bound _ (listed.reads n (omega (arith, le))) (passed _ q.2 (ap (λ ts. got (D.declaration (record { specifiers = ss; declarators = d ∷ ds })) ts) q.4))))));
+            (bound _ (listed.reads n (omega (arith, le))) (passed _ q.2 (ap (λ ts. got (D.declaration (record { specifiers = ss; declarators = d ∷ ds })) ts) q.4))))));
       }
 
   closes_behind : (ds : List D.InitDeclaratorData) (ts rest : List Token) → Spells text (printed.objects ds ++ any T.Semicolon ∷ []) ts rest → Closes ts
@@ -185,7 +185,7 @@ module _ (text : List ℕ) where
   external_end : (x : D.ExternalData) (ts rest : List Token) → IsGroupedExternal x → Spells text (whole.external x) ts rest → Ends text (λ r. S.external text r ts) x rest
   external_end (D.type_definition d) ts rest g s =
       let p = parts text (spelled.specifiers d.specifiers) (spelled.pointers d.pointers ++ word T.Identifier d.name ∷ any T.Semicolon ∷ []) s.1 rest
-        (three text _ _ (spelled.specifiers d.specifiers) (spelled.pointers d.pointers) (word T.Identifier d.name ∷ any T.Semicolon ∷ []) s.4) in
+      (three text _ _ (spelled.specifiers d.specifiers) (spelled.pointers d.pointers) (word T.Identifier d.name ∷ any T.Semicolon ∷ []) s.4) in
       let c = parts text (spelled.pointers d.pointers) (word T.Identifier d.name ∷ any T.Semicolon ∷ []) p.between rest p.behind in
       let q = c.behind in
       let u = q.4 in
@@ -194,11 +194,11 @@ module _ (text : List ℕ) where
       record {
         enough = first.enough + stars.enough;
         reads = λ n le. holds _ (ap (λ k. kind k == 6) (class_is s.2 s.3.0)) (passed _ s.2 (bound _ (first.reads n (omega (arith, le))) (bound _ (stars.reads n (omega (arith, le)))
-          (passed _ q.2 (passed _ u.2 (all_three (λ x w ts. got (D.type_definition (record { place = x; specifiers = d.specifiers; pointers = d.pointers; name = w })) ts) s.3.1 (sym q.3.1) u.4))))));
+            (passed _ q.2 (passed _ u.2 (all_three (λ x w ts. got (D.type_definition (record { place = x; specifiers = d.specifiers; pointers = d.pointers; name = w })) ts) s.3.1 (sym q.3.1) u.4))))));
       }
   external_end (D.declaration d) ts rest g s =
       let p = parts text (spelled.specifiers d.specifiers) (printed.objects d.declarators ++ any T.Semicolon ∷ []) ts rest
-        (three text _ _ (spelled.specifiers d.specifiers) (printed.objects d.declarators) (any T.Semicolon ∷ []) s) in
+      (three text _ _ (spelled.specifiers d.specifiers) (printed.objects d.declarators) (any T.Semicolon ∷ []) s) in
       let first = specifiers_end text d.specifiers ts p.between g.0.1 p.front (closes_behind d.declarators p.between rest p.behind) in
       let more = behind_specifiers d.specifiers d.declarators p.between rest g.1 p.behind in
       record {
@@ -208,9 +208,9 @@ module _ (text : List ℕ) where
   external_end (D.function d) ts rest g s =
       let front = word T.Identifier d.name ∷ any T.LeftParenthesis ∷ whole.parameters d.parameters in
       let p = parts text (spelled.specifiers d.specifiers) ((spelled.pointers d.pointers ++ front) ++ any T.RightParenthesis ∷ whole.body d.body) ts rest
-        (four text _ _ (spelled.specifiers d.specifiers) (spelled.pointers d.pointers) front (any T.RightParenthesis ∷ whole.body d.body) s) in
+      (four text _ _ (spelled.specifiers d.specifiers) (spelled.pointers d.pointers) front (any T.RightParenthesis ∷ whole.body d.body) s) in
       let c = parts text (spelled.pointers d.pointers) (front ++ any T.RightParenthesis ∷ whole.body d.body) p.between rest
-        (three text _ _ (spelled.pointers d.pointers) front (any T.RightParenthesis ∷ whole.body d.body) p.behind) in
+      (three text _ _ (spelled.pointers d.pointers) front (any T.RightParenthesis ∷ whole.body d.body) p.behind) in
       let q = c.behind in
       let u = q.4 in
       let o = parts text (whole.parameters d.parameters) (any T.RightParenthesis ∷ whole.body d.body) u.1 rest u.4 in
@@ -223,21 +223,21 @@ module _ (text : List ℕ) where
       record {
         enough = first.enough + (stars.enough + (listed.enough + inner.enough));
         reads = λ n le. fails _ (ap (λ k. k == 6) (first_specifiers text d.specifiers ts p.between g.0.0 p.front)) (bound _ (first.reads n (omega (arith, le)))
-          (fails _ (ap (λ k. k == 15) begins) (bound _ (stars.reads n (omega (arith, le))) (passed _ q.2 (holds _ (ap (λ k. k == 37) (class_is u.2 u.3)) (passed _ u.2
-          (bound _ (listed.reads n (omega (arith, le))) (passed _ v.2 (bound _ (inner.reads n (omega (arith, le)))
-          (ap (λ w. got (D.function (record { specifiers = d.specifiers; pointers = d.pointers; name = w; parameters = d.parameters; body = d.body })) rest) (sym q.3.1)))))))))));
+            (fails _ (ap (λ k. k == 15) begins) (bound _ (stars.reads n (omega (arith, le))) (passed _ q.2 (holds _ (ap (λ k. k == 37) (class_is u.2 u.3)) (passed _ u.2
+            (bound _ (listed.reads n (omega (arith, le))) (passed _ v.2 (bound _ (inner.reads n (omega (arith, le)))
+            (ap (λ w. got (D.function (record { specifiers = d.specifiers; pointers = d.pointers; name = w; parameters = d.parameters; body = d.body })) rest) (sym q.3.1)))))))))));
       }
 
   first_external : (x : D.ExternalData) (ts rest : List Token) → IsGroupedExternal x → Spells text (whole.external x) ts rest → (kind (class_of ts) == 0) ≡ false
   first_external (D.type_definition d) ts rest g s = ap (λ k. kind k == 0) (class_is s.2 s.3.0)
   first_external (D.declaration d) ts rest g s =
       let p = parts text (spelled.specifiers d.specifiers) (printed.objects d.declarators ++ any T.Semicolon ∷ []) ts rest
-        (three text _ _ (spelled.specifiers d.specifiers) (printed.objects d.declarators) (any T.Semicolon ∷ []) s) in
+      (three text _ _ (spelled.specifiers d.specifiers) (printed.objects d.declarators) (any T.Semicolon ∷ []) s) in
       ap (λ k. k == 0) (first_specifiers text d.specifiers ts p.between g.0.0 p.front)
   first_external (D.function d) ts rest g s =
       let front = word T.Identifier d.name ∷ any T.LeftParenthesis ∷ whole.parameters d.parameters in
       let p = parts text (spelled.specifiers d.specifiers) ((spelled.pointers d.pointers ++ front) ++ any T.RightParenthesis ∷ whole.body d.body) ts rest
-        (four text _ _ (spelled.specifiers d.specifiers) (spelled.pointers d.pointers) front (any T.RightParenthesis ∷ whole.body d.body) s) in
+      (four text _ _ (spelled.specifiers d.specifiers) (spelled.pointers d.pointers) front (any T.RightParenthesis ∷ whole.body d.body) s) in
       ap (λ k. k == 0) (first_specifiers text d.specifiers ts p.between g.0.0 p.front)
 
   externals_end : (es : List D.ExternalData) (ts : List Token) → AreGroupedExternals es → Spells text (whole.externals es) ts [] → Ends text (λ r. r.externals ts) es []
@@ -247,7 +247,7 @@ module _ (text : List ℕ) where
       let first = external_end x ts p.between g.0 p.front in
       let more = externals_end es p.between g.1 p.behind in
       again text (λ r. r.externals ts) (x ∷ es) [] (first.enough + more.enough) (λ n le.
-        fails _ (first_external x ts p.between g.0 p.front) (bound _ (first.reads n (omega (arith, le))) (bound _ (more.reads n (omega (arith, le))) refl)))
+      fails _ (first_external x ts p.between g.0 p.front) (bound _ (first.reads n (omega (arith, le))) (bound _ (more.reads n (omega (arith, le))) refl)))
 
 pub one_tree : TreeIsOne
 one_tree text tokens a b is also =
