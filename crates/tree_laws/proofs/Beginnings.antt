@@ -1,5 +1,5 @@
 -- What the class of a token says of what begins or goes on there.
-use Rattle.std.proofs.Common.{◌≡◌, ◌==◌, ℕ, List, [], ◌∷◌, Option, None, Some, cond, get_or, refl, if◌then◌else◌, suc}
+use Rattle.std.proofs.Common.{◌≡◌, ◌==◌, ℕ, List, [], ◌∷◌, Option, None, Some, refl, if◌then◌else◌, suc}
 use Rattle.c_lexer.specs.TokenClasses.{class_number}
 use Rattle.c_lexer.specs.declared.token_class.TokenClass.TheVariants as T
 use Rattle.c_tree.specs.declared.expression.BinaryOperator.{BinaryOperator}

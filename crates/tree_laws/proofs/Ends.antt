@@ -1,9 +1,9 @@
 -- What a reader comes to that may go on often enough.
-use Rattle.std.proofs.Common.{◌≡◌, ◌≢◌, ◌∙◌, ◌≤◌, ◌<◌, ◌+◌, ◌==◌, ℕ, zero, suc, Bool, true, false, List, [], ◌∷◌, ◌++◌, append_assoc, refl, sym, ap, subst, arith}
+use Rattle.std.proofs.Common.{◌≡◌, ◌≢◌, ◌∙◌, ◌≤◌, ◌==◌, ℕ, zero, suc, false, List, [], ◌∷◌, ◌++◌, append_assoc, refl, sym, ap, subst, arith}
 use Rattle.std.proofs.lemmas.Bool.{ne_eqb}
 use Rattle.c_lexer.specs.declared.token.Token.{Token}
 use Rattle.c_reader.specs.Pieces.{Piece, Spells}
-use Rattle.tree_laws.proofs.Beginnings.{strength, kind}
+use Rattle.tree_laws.proofs.Beginnings.{strength}
 use Rattle.tree_laws.proofs.Reading.{Got, got, class_of, class_is}
 use Rattle.tree_laws.proofs.Readers.{Readers}
 use Rattle.tree_laws.proofs.StatementReaders.{readers}

@@ -1,20 +1,19 @@
 -- Each expression that groups as C groups is what its own tokens are read as, and so are the parts of declarations in it.
-use Rattle.std.proofs.Common.{◌≡◌, ◌∙◌, ◌≤◌, ◌<◌, ◌+◌, ◌==◌, ℕ, zero, suc, Bool, true, false, List, [], ◌∷◌, ◌++◌, Option, None, Some, refl, sym, ap, subst, arith}
+use Rattle.std.proofs.Common.{◌≡◌, ◌∙◌, ◌≤◌, ◌+◌, ◌==◌, ℕ, suc, Bool, false, List, [], ◌∷◌, ◌++◌, None, Some, refl, sym, ap, subst, arith}
 use Rattle.misra_base.specs.declared.place.Place.{Place}
 use Rattle.c_lexer.specs.declared.token.Token.{Token}
 use Rattle.c_lexer.specs.declared.token_class.TokenClass.TheVariants as T
 use Rattle.c_tree.specs.Expressions as E
-use Rattle.c_tree.specs.declared.expression.Word.{Word}
-use Rattle.c_reader.specs.Pieces.{Piece, Spells, any, at, word}
-use Rattle.c_reader.specs.Grouping.{binding, row_of_first, HasSpecifier, HasDeclarator, HasEnumerator, IsGrouped, AreGrouped, ArePostfixes, IsPostfix, AreArguments, IsGroupedType, AreSpecifiers, IsSpecifier, AreMembers, AreDeclarators, IsDeclarator, AreBounds, IsBound, IsMaybe, AreEnumerators}
+use Rattle.c_reader.specs.Pieces.{Spells, any, at, word}
+use Rattle.c_reader.specs.Grouping.{binding, row_of_first, HasDeclarator, HasEnumerator, IsGrouped, AreGrouped, ArePostfixes, IsPostfix, AreArguments, IsGroupedType, AreSpecifiers, IsSpecifier, AreMembers, AreDeclarators, IsDeclarator, AreBounds, IsBound, IsMaybe, AreEnumerators}
 use Rattle.c_reader.specs.SpelledExpressions as spelled
 use Rattle.tree_laws.proofs.Ends.{Ends, again, parts, three, weak, weak_in}
-use Rattle.tree_laws.proofs.Firsts.{Closes, NoPointer, kind_is, kind_closes, name_closes, level, reach, first_row_most, first_expression, first_specifiers, first_type, first_declarator, first_declarators, first_operation, pointers_close, no_brace, no_bound, more_arguments_weak, enumerators_weak}
+use Rattle.tree_laws.proofs.Firsts.{Closes, kind_closes, name_closes, level, reach, first_row_most, first_expression, first_specifiers, first_type, first_declarators, first_operation, pointers_close, no_brace, no_bound, more_arguments_weak, enumerators_weak}
 use Rattle.tree_laws.proofs.Beginnings.{strength, kind, row_with, binaries, unaries, keywords, qualifiers_of, unary_is, binary_is, keyword_is, binary_strength}
-use Rattle.tree_laws.proofs.Lists.{Tail, trailing_end, no_more}
+use Rattle.tree_laws.proofs.Lists.{trailing_end, no_more}
 use Rattle.tree_laws.proofs.Operands.{no_operations_end, at_row, as_unary, word_end, bracket_end, whole, to, none_behind, postfixes_from, chained_is, equal, both, all_three, all_four, not_zero, not_most}
 use Rattle.tree_laws.proofs.Pointers.{pointers_end}
-use Rattle.tree_laws.proofs.Reading.{Got, got, class_of, class_is, word_of, bound, passed, holds, fails, found, missing, chosen}
+use Rattle.tree_laws.proofs.Reading.{got, class_of, class_is, bound, passed, holds, fails, found, missing, chosen}
 use Rattle.tree_laws.proofs.Readers as R
 use Rattle.tree_laws.proofs.StatementReaders.{readers}
 use Rattle.tree_laws.proofs.Readers.{Readers, with_postfixes}

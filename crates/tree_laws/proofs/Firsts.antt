@@ -1,12 +1,12 @@
 -- What expressions, specifiers and declarators begin with.
-use Rattle.std.proofs.Common.{◌≡◌, ◌∙◌, ◌≤◌, ◌<◌, ◌==◌, ℕ, zero, suc, Bool, true, false, List, [], ◌∷◌, ◌++◌, Option, None, Some, inl, inr, ◌⊎◌, refl, sym, ap, subst, arith}
+use Rattle.std.proofs.Common.{◌≡◌, ◌∙◌, ◌≤◌, ◌==◌, ℕ, suc, Bool, true, false, List, [], ◌∷◌, ◌++◌, None, inl, inr, ◌⊎◌, sym, ap, subst, arith}
 use Rattle.c_lexer.specs.declared.token.Token.{Token}
 use Rattle.c_tree.specs.declared.expression.BinaryOperator.{BinaryOperator}
 use Rattle.c_tree.specs.declared.expression.BinaryOperator.TheVariants as B
 use Rattle.c_tree.specs.Expressions
 use Rattle.misra_base.specs.declared.place.Place.{Place}
 use Rattle.c_lexer.specs.declared.token_class.TokenClass.TheVariants as T
-use Rattle.c_reader.specs.Pieces.{Piece, Spells, at}
+use Rattle.c_reader.specs.Pieces.{Spells, at}
 use Rattle.c_reader.specs.Grouping.{binding, row_of, row_of_first, HasSpecifier, HasDeclarator, AreGrouped, IsGroupedType}
 use Rattle.c_reader.specs.SpelledExpressions as spelled
 use Rattle.tree_laws.proofs.Ends.{parts, weak, weak_in}

@@ -3,7 +3,7 @@ use Rattle.std.proofs.Common.{◌≡◌, ◌==◌, ℕ, Bool, true, false, List,
 use Rattle.misra_base.specs.declared.place.Place.{Place}
 use Rattle.c_lexer.specs.declared.token.Token.{Token}
 use Rattle.c_lexer.specs.declared.token_class.TokenClass.TheVariants as T
-use Rattle.c_reader.specs.Pieces.{Piece, Spells, at}
+use Rattle.c_reader.specs.Pieces.{Spells, at}
 use Rattle.c_reader.specs.SpelledExpressions as spelled
 use Rattle.tree_laws.proofs.Beginnings.{kind}
 use Rattle.tree_laws.proofs.Reading.{Got, got, class_of, class_is, passed, holds, fails, pass, test}

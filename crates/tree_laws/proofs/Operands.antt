@@ -1,5 +1,5 @@
 -- Steps of the reading of expressions that need no induction.
-use Rattle.std.proofs.Common.{◌≡◌, ◌≢◌, ◌∙◌, ◌≤◌, ◌<◌, ◌+◌, ◌-◌, ◌==◌, ℕ, zero, suc, Bool, true, false, cond, List, [], ◌∷◌, ◌++◌, Option, None, Some, inl, inr, ◌⊎◌, refl, sym, ap, subst, arith}
+use Rattle.std.proofs.Common.{◌≡◌, ◌≢◌, ◌∙◌, ◌≤◌, ◌<◌, ◌+◌, ◌-◌, ◌==◌, ℕ, zero, suc, true, false, List, ◌∷◌, None, inl, inr, ◌⊎◌, refl, sym, ap, subst, arith}
 use Rattle.std.proofs.lemmas.Bool.Decides.{eqb_tells}
 use Rattle.c_lexer.specs.declared.token.Token.{Token}
 use Rattle.c_tree.specs.Expressions
@@ -7,7 +7,7 @@ use Rattle.c_reader.specs.Grouping.{HasPostfix, row_of_first, chained}
 use Rattle.tree_laws.proofs.Ends.{Ends, again, not_equal, weak_in}
 use Rattle.tree_laws.proofs.Firsts.{level, level_most}
 use Rattle.tree_laws.proofs.Beginnings.{strength, kind, row_with, unaries}
-use Rattle.tree_laws.proofs.Reading.{Got, got, class_of, class_is, word_of, bound, passed, holds, fails, found, missing, chosen}
+use Rattle.tree_laws.proofs.Reading.{Got, got, class_of, class_is, word_of, bound, passed, holds, fails, missing, chosen}
 use Rattle.tree_laws.proofs.Readers as R
 use Rattle.tree_laws.proofs.Readers.{Readers, with_postfixes, atom}
 

@@ -1,14 +1,14 @@
 -- Pointers are read whole.
-use Rattle.std.proofs.Common.{◌≡◌, ◌∙◌, ◌≤◌, ◌+◌, ◌==◌, ℕ, false, List, [], ◌∷◌, ◌++◌, Option, None, refl, sym, ap, arith}
+use Rattle.std.proofs.Common.{◌≡◌, ◌∙◌, ◌+◌, ◌==◌, ℕ, List, [], ◌∷◌, None, refl, ap, arith}
 use Rattle.c_lexer.specs.declared.token.Token.{Token}
 use Rattle.c_tree.specs.declared.expression.Qualifier.{Qualifier}
 use Rattle.c_tree.specs.Expressions
-use Rattle.c_reader.specs.Pieces.{Piece, Spells}
+use Rattle.c_reader.specs.Pieces.{Spells}
 use Rattle.c_reader.specs.SpelledExpressions as spelled
 use Rattle.tree_laws.proofs.Ends.{Ends, again, parts}
 use Rattle.tree_laws.proofs.Firsts.{NoPointer, no_qualifier}
 use Rattle.tree_laws.proofs.Beginnings.{row_with, qualifiers_of, qualifier_is}
-use Rattle.tree_laws.proofs.Reading.{Got, got, class_of, class_is, bound, passed, holds, fails, found, missing}
+use Rattle.tree_laws.proofs.Reading.{got, class_of, class_is, bound, passed, holds, fails, found, missing}
 
 qualifiers_end : (text : List ℕ) (qs : List Qualifier) (ts rest : List Token) → Spells text (spelled.qualifiers qs) ts rest → row_with qualifiers_of (class_of rest) ≡ None
     → Ends text (λ r. r.qualifiers ts) qs rest

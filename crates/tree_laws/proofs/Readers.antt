@@ -1,6 +1,6 @@
 -- A plain reader of expressions and of what declarations are made of: what stands at the front of a list of tokens, and
 -- what is behind it. `Readers` are the readers that a reader goes on with.
-use Rattle.std.proofs.Common.{◌≡◌, ◌==◌, ℕ, suc, Bool, true, false, cond, List, [], ◌∷◌, Option, None, Some}
+use Rattle.std.proofs.Common.{◌==◌, ℕ, suc, Bool, true, false, cond, List, [], ◌∷◌, Option, None, Some}
 use Rattle.c_lexer.specs.declared.token.Token.{Token}
 use Rattle.c_tree.specs.declared.expression.Qualifier.{Qualifier}
 use Rattle.c_tree.specs.declared.expression.Word.{Word}

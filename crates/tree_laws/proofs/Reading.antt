@@ -1,6 +1,6 @@
 -- Reading a list of tokens from the front, step by step. Each step is told by a law, so that a proof goes along the text
 -- of a reader.
-use Rattle.std.proofs.Common.{◌≡◌, ◌∙◌, ℕ, ◌==◌, Bool, true, false, cond, List, [], ◌∷◌, Option, None, Some, drop, refl, ap}
+use Rattle.std.proofs.Common.{◌≡◌, ◌∙◌, ℕ, Bool, true, false, cond, List, [], ◌∷◌, Option, None, Some, drop, refl, ap}
 use Rattle.c_lexer.specs.declared.token.Token.{Token}
 use Rattle.c_lexer.specs.Slices.{token_text}
 use Rattle.c_tree.specs.declared.expression.Word.{Word}

@@ -1,5 +1,5 @@
 -- The parts of statements are read whole.
-use Rattle.std.proofs.Common.{◌≡◌, ◌∙◌, ◌≤◌, ◌+◌, ◌==◌, ℕ, Bool, true, false, List, [], ◌∷◌, ◌++◌, Option, None, Some, inl, inr, ◌⊎◌, refl, sym, ap, subst, arith}
+use Rattle.std.proofs.Common.{◌≡◌, ◌∙◌, ◌≤◌, ◌+◌, ◌==◌, ℕ, false, List, [], ◌∷◌, ◌++◌, Option, None, Some, inl, inr, ◌⊎◌, refl, sym, ap, arith}
 use Rattle.c_lexer.specs.TokenClasses.{class_number}
 use Rattle.c_lexer.specs.declared.token.Token.{Token}
 use Rattle.c_lexer.specs.declared.token_class.TokenClass.TheVariants as T
@@ -9,18 +9,18 @@ use Rattle.c_tree.specs.declared.statement.Step.{Step}
 use Rattle.c_tree.specs.declared.statement.Step.TheVariants as P
 use Rattle.c_tree.specs.Expressions as E
 use Rattle.c_tree.specs.Statements as D
-use Rattle.c_reader.specs.Pieces.{Piece, Spells, any, at, word}
+use Rattle.c_reader.specs.Pieces.{Spells, any, at, word}
 use Rattle.c_reader.specs.Signs.{assignment_sign, step_sign}
 use Rattle.c_reader.specs.GroupedStatements.{IsGroupedSimple, IsGroupedStep, IsGroupedOption, IsGroupedLeave, IsGroupedStart, AreGroupedLabels}
 use Rattle.c_reader.specs.SpelledExpressions as spelled
 use Rattle.c_reader.specs.SpelledStatements as printed
 use Rattle.tree_laws.proofs.Beginnings.{strength, kind, row_with, assignments, qualifiers_of, assignment_is}
-use Rattle.tree_laws.proofs.Ends.{Ends, again, parts, three, weak, weak_in}
+use Rattle.tree_laws.proofs.Ends.{Ends, again, parts, three, weak}
 use Rattle.tree_laws.proofs.Expressions.{expression_end, specifiers_end}
-use Rattle.tree_laws.proofs.Firsts.{Closes, kind_is, kind_closes, reach, first_expression, first_specifiers, pointers_begin}
+use Rattle.tree_laws.proofs.Firsts.{kind_is, kind_closes, reach, first_expression, first_specifiers, pointers_begin}
 use Rattle.tree_laws.proofs.Operands.{both, all_three}
 use Rattle.tree_laws.proofs.Pointers.{pointers_end}
-use Rattle.tree_laws.proofs.Reading.{Got, got, class_of, class_is, word_of, bound, passed, holds, fails, found, missing, chosen, by}
+use Rattle.tree_laws.proofs.Reading.{Got, got, class_of, class_is, bound, passed, holds, fails, found, missing, chosen, by}
 use Rattle.tree_laws.proofs.StatementReaders as S
 use Rattle.tree_laws.proofs.StatementReaders.{readers, step_of}
 

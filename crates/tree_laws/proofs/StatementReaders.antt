@@ -1,13 +1,12 @@
 -- A plain reader of declarations, statements and translation units, over that of expressions.
-use Rattle.std.proofs.Common.{◌≡◌, ◌==◌, ℕ, zero, suc, Bool, true, false, cond, List, [], ◌∷◌, Option, None, Some}
+use Rattle.std.proofs.Common.{◌==◌, ℕ, zero, suc, cond, List, [], ◌∷◌, Option, None, Some}
 use Rattle.c_lexer.specs.declared.token.Token.{Token}
 use Rattle.misra_base.specs.declared.place.Place.{Place}
-use Rattle.c_tree.specs.declared.expression.Word.{Word}
 use Rattle.c_tree.specs.declared.statement.Step.{Step}
 use Rattle.c_tree.specs.declared.statement.Step.TheVariants as S
 use Rattle.c_tree.specs.Expressions
 use Rattle.c_tree.specs.Statements
-use Rattle.tree_laws.proofs.Beginnings.{strength, kind, row_with, assignments}
+use Rattle.tree_laws.proofs.Beginnings.{kind, row_with, assignments}
 use Rattle.tree_laws.proofs.Reading.{Got, got, class_of, word_of, bind, pass, test, on_some, by}
 use Rattle.tree_laws.proofs.Readers as R
 use Rattle.tree_laws.proofs.Readers.{Readers, declarator, trailing, bound}

@@ -1,20 +1,20 @@
 -- Statements are read whole.
-use Rattle.std.proofs.Common.{◌≡◌, ◌∙◌, ◌≤◌, ◌+◌, ◌==◌, ℕ, Bool, true, false, List, [], ◌∷◌, ◌++◌, Option, None, Some, inl, inr, ◌⊎◌, refl, sym, ap, subst, true≢false, arith}
+use Rattle.std.proofs.Common.{◌≡◌, ◌∙◌, ◌+◌, ◌==◌, ℕ, false, List, [], ◌∷◌, ◌++◌, inl, inr, ◌⊎◌, refl, sym, ap, subst, true≢false, arith}
 use Rattle.c_lexer.specs.declared.token.Token.{Token}
 use Rattle.c_lexer.specs.declared.token_class.TokenClass.TheVariants as T
 use Rattle.c_tree.specs.Statements as D
-use Rattle.c_reader.specs.Pieces.{Piece, Spells, any, at}
+use Rattle.c_reader.specs.Pieces.{Spells, any, at}
 use Rattle.c_reader.specs.GroupedStatements.{HasLabel, IsGroupedBlock, AreGroupedItems, IsGroupedItem, IsGroupedStatement, IsGroupedIf, IsGroupedElse, AreGroupedClauses, IsGroupedDefault, IsGroupedBody, AreGroupedStatements}
 use Rattle.c_reader.specs.SpelledExpressions as spelled
 use Rattle.c_reader.specs.SpelledStatements as printed
-use Rattle.tree_laws.proofs.Beginnings.{strength, kind}
+use Rattle.tree_laws.proofs.Beginnings.{kind}
 use Rattle.tree_laws.proofs.Ends.{Ends, again, parts, three, four, weak, not_equal}
 use Rattle.tree_laws.proofs.Expressions.{expression_end}
 use Rattle.tree_laws.proofs.Declarations.{declaration_end}
 use Rattle.tree_laws.proofs.Firsts.{kind_is, first_specifiers}
-use Rattle.tree_laws.proofs.Operands.{to, both, all_three}
-use Rattle.tree_laws.proofs.Reading.{Got, got, class_of, class_is, bound, passed, holds, fails, chosen}
-use Rattle.tree_laws.proofs.Simples.{IsQuiet, quiet, first_simple, simple_end, optional_expression_end, optional_simple_end, start_end, leave_end, first_leave, labels_end}
+use Rattle.tree_laws.proofs.Operands.{both, all_three}
+use Rattle.tree_laws.proofs.Reading.{got, class_of, class_is, bound, passed, holds, fails, chosen}
+use Rattle.tree_laws.proofs.Simples.{quiet, first_simple, simple_end, optional_expression_end, optional_simple_end, start_end, leave_end, first_leave, labels_end}
 use Rattle.tree_laws.proofs.StatementReaders as S
 
 -- a statement begins there, and no declaration, jump or brace that closes, and no `else`

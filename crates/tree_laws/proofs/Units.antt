@@ -1,13 +1,13 @@
 -- Translation units are read whole, so a text has one tree.
-use Rattle.std.proofs.Common.{◌≡◌, ◌∙◌, ◌≤◌, ◌+◌, ◌==◌, ℕ, Bool, true, false, List, [], ◌∷◌, ◌++◌, Option, None, Some, inl, inr, ◌⊎◌, refl, sym, ap, subst, arith}
+use Rattle.std.proofs.Common.{◌≡◌, ◌∙◌, ◌+◌, ◌==◌, ℕ, false, List, [], ◌∷◌, ◌++◌, Option, None, Some, refl, sym, ap, subst, arith}
 use Rattle.c_lexer.specs.declared.token.Token.{Token}
 use Rattle.c_lexer.specs.declared.token_class.TokenClass.TheVariants as T
 use Rattle.c_tree.specs.declared.expression.Word.{Word}
 use Rattle.c_tree.specs.Expressions as E
 use Rattle.c_tree.specs.Statements as D
-use Rattle.c_reader.specs.Pieces.{Piece, Spells, any, at, word}
+use Rattle.c_reader.specs.Pieces.{Spells, any, word}
 use Rattle.c_reader.specs.Grouping.{AreGroupedSpecifiers}
-use Rattle.c_reader.specs.GroupedStatements.{AreGroupedObjects, IsGroupedBound, IsGroupedParameter, AreGroupedParameters, HasParameter, IsGroupedDefinition, IsGroupedExternal, AreGroupedExternals}
+use Rattle.c_reader.specs.GroupedStatements.{AreGroupedObjects, IsGroupedBound, AreGroupedParameters, HasParameter, IsGroupedDefinition, IsGroupedExternal, AreGroupedExternals}
 use Rattle.c_reader.specs.SpelledExpressions as spelled
 use Rattle.c_reader.specs.SpelledStatements as printed
 use Rattle.c_reader.specs.SpelledExternals as whole
@@ -20,7 +20,7 @@ use Rattle.tree_laws.proofs.Expressions.{specifiers_end, bound_end}
 use Rattle.tree_laws.proofs.Firsts.{Closes, NoPointer, kind_is, kind_closes, first_specifiers, pointers_close, pointers_begin}
 use Rattle.tree_laws.proofs.Operands.{both, all_three}
 use Rattle.tree_laws.proofs.Pointers.{pointers_end}
-use Rattle.tree_laws.proofs.Reading.{Got, got, class_of, class_is, class_nothing, bound, passed, holds, fails}
+use Rattle.tree_laws.proofs.Reading.{got, class_of, class_is, class_nothing, bound, passed, holds, fails}
 use Rattle.tree_laws.proofs.StatementReaders as S
 use Rattle.tree_laws.proofs.Statements.{block_end}
 
