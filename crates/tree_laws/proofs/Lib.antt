@@ -12,3 +12,4 @@ mod Declarations
 mod Simples
 mod Statements
 mod Units
+mod Spelled

@@ -3,4 +3,4 @@
 
 mod laws;
 
-pub use laws::tree_is_one;
+pub use laws::{signs_are_spelled, tree_is_one};
