@@ -20,11 +20,11 @@ cp "$root/bench/desk_core.rt.in" "$program/src/main.rt"
 cp "$root/bench/desk_rows.rt.in" "$program/src/first_rows.rt"
 # That numbered rows have different keys is proved beside the tests of the limits.
 echo 'pub mod Numbered' >"$program/proofs/Lib.antt"
-sed 's/desk_sure/desk_bench/' "$root/crates/desk_sure/proofs/Numbered.antt" >"$program/proofs/Numbered.antt"
+sed 's/limit_tests/desk_bench/' "$root/crates/limit_tests/proofs/Numbered.antt" >"$program/proofs/Numbered.antt"
 for rows in kept_rows first_deviations; do
     mkdir "$program/proofs/first_rows/$rows"
     for file in Answers Invariants; do
-        sed 's/desk_sure/desk_bench/' "$root/crates/desk_sure/proofs/first_rows/$rows/$file.antt" \
+        sed 's/limit_tests/desk_bench/' "$root/crates/limit_tests/proofs/first_rows/$rows/$file.antt" \
             >"$program/proofs/first_rows/$rows/$file.antt"
     done
 done

@@ -9,14 +9,16 @@ use Rattle.std.proofs.lemmas.Bool.{and_parts, cases_Bool, cond-true, cond-false,
 use Rattle.std.proofs.lemmas.List.{take_all}
 use Rattle.std.proofs.lemmas.List.Elements.{All-more}
 use Rattle.std.proofs.lemmas.Slice.Eq.{bytes_eq-Decides}
+use Rattle.misra_base.specs.Guidelines.{same_guideline}
 use Rattle.misra_base.specs.declared.guideline.Guideline.{Guideline}
 use Rattle.misra_base.specs.declared.finding.Finding.{Finding}
 use Rattle.misra_base.specs.declared.deviation.Deviation.{Deviation}
 use Rattle.misra_base.specs.declared.deviation.Form.{Form}
 use Rattle.misra_base.specs.declared.deviation.Form.TheVariants.{Text, Pattern}
 use Rattle.misra_base.specs.declared.category.Plan.{Plan}
-use Rattle.compliance_core.specs.Covers.{does_cover, stands_as, stands_for}
-use Rattle.compliance_core.specs.Hashes.{HasFinding, HasObject, IsFilter, deviation_hash, fixed_part, hash_from, outside_from, words_hash}
+use Rattle.compliance_core.specs.Categories.{is_mandatory, revised_category}
+use Rattle.compliance_core.specs.Covers.{does_cover, is_approved, stands_as, stands_for}
+use Rattle.compliance_core.specs.Hashes.{HasFinding, HasFindings, HasObject, IsFilter, deviation_hash, fixed_part, hash_from, outside_from, words_hash}
 use Rattle.compliance_core.specs.Marks.{can_cover, is_other}
 use Rattle.compliance_core.specs.Patterns.{after_byte, after_digits, after_index, begins_with_any, filled_past, is_filled}
 use Rattle.compliance_core.proofs.PatternLemmas.{any_shape}
@@ -45,7 +47,7 @@ past_digits (b ∷ text) =
     (cases_Bool (is_ascii_digit b))
 
 -- ---- a byte that is there
-byte_there : (b : ℕ) (text behind : List ℕ) → after_byte b text ≡ Some behind → text ≡ b ∷ behind
+pub byte_there : (b : ℕ) (text behind : List ℕ) → after_byte b text ≡ Some behind → text ≡ b ∷ behind
 byte_there b [] behind e = cc
 byte_there b (c ∷ text) behind e = there (eqb c b) refl e
   where
@@ -53,7 +55,7 @@ byte_there b (c ∷ text) behind e = there (eqb c b) refl e
     there true is e = let left : text ≡ behind = cc in ap (λ x. x ∷ text) (eqb-true c b is) ∙ ap (λ x. b ∷ x) left
     there false is e = cc
 
-digits_there : (none : Bool) (text behind : List ℕ) → cond none None (after_byte (byte "]") text) ≡ Some behind → text ≡ byte "]" ∷ behind
+pub digits_there : (none : Bool) (text behind : List ℕ) → cond none None (after_byte (byte "]") text) ≡ Some behind → text ≡ byte "]" ∷ behind
 digits_there true text behind e = cc
 digits_there false text behind e = byte_there (byte "]") text behind e
 
@@ -192,3 +194,24 @@ filter_more has new g findings i f inside is grow before here =
 
 pub filter_done : (has : ℕ → Bool) (g : Guideline) (findings : List Finding) (i : ℕ) → length findings ≤ i → IsFilter has g (take i findings) → IsFilter has g findings
 filter_done has g findings i ended h = subst (λ xs. IsFilter has g xs) (take_all i findings ended) h
+
+pub findings_more : (has new : ℕ → Bool) (findings : List Finding) (i : ℕ) (f : Finding) → i < length findings → f ≡ get_or findings i f
+    → ((k : ℕ) → has k ≡ true → new k ≡ true) → HasFindings has (take i findings) → HasFinding new f → HasFindings new (take (i + 1) findings)
+findings_more has new findings i f inside is grow before here =
+    All-more (HasFinding new) findings i f inside (λ k d below. kept_hashes has new (get_or (take i findings) k d) grow (before k d below)) (subst (HasFinding new) is here)
+
+pub findings_done : (has : ℕ → Bool) (findings : List Finding) (i : ℕ) → length findings ≤ i → HasFindings has (take i findings) → HasFindings has findings
+findings_done has findings i ended h = subst (HasFindings has) (take_all i findings ended) h
+
+-- a deviation that covers a finding is approved and has one of its hashes
+pub passed_over : (has : ℕ → Bool) (plan : Plan) (d : Deviation) (f : Finding) (passed : Bool) → passed ≡ (is_approved d.status && has (deviation_hash d)) → HasFinding has f → passed ≡ false → does_cover plan d f ≡ false
+passed_over has plan d f passed is all over =
+    ⊎_elim
+    (λ (covered : does_cover plan d f ≡ true).
+    let approved : is_approved d.status ≡ true =
+        (and_parts (is_approved d.status) (same_guideline d.guideline f.guideline && not (is_mandatory (revised_category plan d.guideline))) (and_parts (can_cover plan d f.guideline) (stands_for d.function f.function)
+        (and_parts (can_cover plan d f.guideline && stands_for d.function f.function) (stands_as d.form d.object f.object) covered).0).0).0 in
+    let both : (is_approved d.status && has (deviation_hash d)) ≡ true = ap (λ b. b && has (deviation_hash d)) approved ∙ hash_of_cover has plan d f all covered in
+    let wrong : false ≡ true = sym over ∙ is ∙ both in cc)
+    (λ (none : does_cover plan d f ≡ false). none)
+    (cases_Bool (does_cover plan d f))

@@ -45,6 +45,10 @@ HasObject has hash object = (has hash ≡ true) × (has (hash_from hash object) 
 abbrev pub HasFinding : (ℕ → Bool) → Finding → Type 0
 HasFinding has f = HasObject has 0 f.object × HasObject has (hash_from 0 f.function) f.object
 
+-- the set has the hashes of all the findings
+abbrev pub HasFindings : (ℕ → Bool) → List Finding → Type 0
+HasFindings has findings = All (HasFinding has) findings
+
 -- the set has the hashes of all findings of the guideline
 abbrev pub IsFilter : (ℕ → Bool) → Guideline → List Finding → Type 0
 IsFilter has g findings = All (λ f. is_other g f ≡ false → HasFinding has f) findings

@@ -7,7 +7,7 @@ ghost use Rattle.compliance_core.specs.Hashes.{hash_count, next_hash as hash_wit
 use misra_base::{BitRow, Deviation, Finding, Form, Guideline, Name};
 
 /// Hashes, as numbers below 131,072.
-pub(crate) type Hashes = BitRow<2048>;
+pub type Hashes = BitRow<2048>;
 
 /// The hash of a text that goes on by one byte.
 fn next_hash(hash: usize, byte: u8) -> usize
@@ -101,7 +101,7 @@ fn add_object(hashes: &mut Hashes, hash: usize, object: &Name)
 }
 
 /// Puts in the hashes of a finding.
-fn add_finding(hashes: &mut Hashes, finding: &Finding)
+pub(crate) fn add_finding(hashes: &mut Hashes, finding: &Finding)
     ensures has { HasFinding (has_bit hashes.new) finding.now }
     ensures kept { (k : ℕ) → has_bit hashes.old k ≡ true → has_bit hashes.new k ≡ true }
 {

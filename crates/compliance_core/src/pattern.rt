@@ -61,10 +61,32 @@ fn behind_first<'a>(pattern: &'a [u8], text: &'a [u8]) -> Option<(&'a [u8], &'a 
     }
 }
 
+/// Whether the text ends as the pattern does behind its last `*`, which all that fills the pattern does.
+fn ends_alike(pattern: &[u8], text: &[u8]) -> bool
+    ensures { result ≡ false → is_filled pattern.now text.now ≡ false }
+{
+    let mut pattern = pattern;
+    let mut text = text;
+    while let (Some((last, before)), Some((end, front))) = (pattern.split_last(), text.split_last()) {
+        if *last == b'*' {
+            return true;
+        }
+        if *last != *end {
+            return false;
+        }
+        pattern = before;
+        text = front;
+    }
+    true
+}
+
 /// Whether the text is the pattern with each `[*]` replaced by a decimal number in brackets.
 pub(crate) fn fills(pattern: &[u8], text: &[u8]) -> bool
     ensures { result ≡ is_filled pattern.now text.now }
 {
+    if !ends_alike(pattern, text) {
+        return false;
+    }
     let mut pattern = pattern;
     let mut text = text;
     while !pattern.is_empty() {

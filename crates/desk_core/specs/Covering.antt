@@ -1,5 +1,5 @@
 -- Each finding with the deviation that covers it.
-use Rattle.std.specs.Prelude.{ℕ, min, if◌then◌else◌, List, map, fold, Option, Some, None}
+use Rattle.std.specs.Prelude.{◌≡◌, ℕ, ◌<◌, min, if◌then◌else◌, List, map, fold, length, slice_index_or, Option, Some, None}
 use Rattle.std.specs.Option.{option_map_or}
 use Rattle.misra_base.specs.declared.finding.Finding.{Finding}
 use Rattle.misra_base.specs.declared.deviation.Deviation.{Deviation}
@@ -17,6 +17,11 @@ better plan f best d = if does_cover plan d f then Some (lesser d.id best) else 
 -- the least id of a deviation that covers the finding
 abbrev pub least_cover : Plan → List Deviation → Finding → Option ℕ
 least_cover plan deviations f = fold (better plan f) None deviations
+
+-- each id is the least one of a deviation that covers its finding
+abbrev pub HasLeast : Plan → List Deviation → List Finding → List (Option ℕ) → Type 0
+HasLeast plan deviations findings ids =
+    (i : ℕ) (f : Finding) → i < length findings → slice_index_or ids i None ≡ least_cover plan deviations (slice_index_or findings i f)
 
 abbrev pub found_row : Plan → List Deviation → Finding → Found
 found_row plan deviations f = record { finding = f; deviation = least_cover plan deviations f }

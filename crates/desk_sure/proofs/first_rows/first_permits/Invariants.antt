@@ -1,5 +1,0 @@
-use Rattle.desk_sure.proofs.Numbered.{AreNumbered, permit_number, same_permit}
-use Rattle.desk_sure.proofs.first_rows.first_permits.Given as goal
-
-abbrev pub invariant-loop-number : goal.invariant-loop-number
-invariant-loop-number l = AreNumbered same_permit permit_number l.number l.rows.items
