@@ -1,12 +1,12 @@
 -- What fills a pattern ends as the pattern does behind its last `*`.
-use Rattle.std.proofs.Common.{◌≡◌, ◌∙◌, ℕ, suc, zero, eqb, Bool, true, false, cond, not, ◌&&◌, List, [], ◌∷◌, ◌++◌, take, drop, Option, Some, None, refl, sym, ap, subst, arith, ⊥, ⊎_elim, ◌⊎◌, ◌≤◌, ◌<◌, length, get_or, codes}
+use Rattle.std.proofs.Common.{◌≡◌, ◌∙◌, ℕ, suc, zero, eqb, Bool, true, false, cond, not, ◌&&◌, List, [], ◌∷◌, ◌++◌, take, drop, Option, Some, None, refl, sym, ap, subst, arith, ⊎_elim, ◌⊎◌, ◌≤◌, ◌<◌, length, get_or, codes}
 use Rattle.std.specs.Prelude.{option_and_then}
 use Rattle.std.specs.Option.{option_map_or}
 use Rattle.std.specs.List.{prefix_len}
 use Rattle.std.specs.Char.{is_ascii_digit}
 use Rattle.std.specs.Str.{byte}
-use Rattle.std.proofs.lemmas.Bool.{and_parts, cases_Bool}
-use Rattle.std.proofs.lemmas.List.{take-append-drop}
+use Rattle.std.proofs.lemmas.Bool.{and_parts, cases_Bool, ne_eqb}
+use Rattle.std.proofs.lemmas.List.{append_assoc, length-append, take-append-drop}
 use Rattle.compliance_core.specs.Patterns.{after_byte, after_digits, after_index, begins_with_any, filled_past, is_filled}
 use Rattle.compliance_core.proofs.HashLemmas.{byte_there, digits_there}
 use Rattle.compliance_core.proofs.PatternLemmas.{any_shape}
@@ -43,16 +43,18 @@ starless_any text none =
     (λ (other : begins_with_any text ≡ false). other)
     (cases_Bool (begins_with_any text))
 
+starless_next : (c : ℕ) (end text : List ℕ) (behind : Option (List ℕ)) → after_byte c text ≡ behind → ((x : List ℕ) → filled_past 0 end x ≡ true → x ≡ end)
+    → option_map_or (filled_past 0 end) behind false ≡ true → text ≡ c ∷ end
+starless_next c end text None e rest h = cc
+starless_next c end text (Some behind) e rest h = byte_there c text behind e ∙ ap (λ x. c ∷ x) (rest behind h)
+
 -- a pattern without `*` is filled by itself alone
 starless_filled : (end text : List ℕ) → starless end ≡ true → filled_past 0 end text ≡ true → text ≡ end
 starless_filled [] [] none h = refl
 starless_filled [] (b ∷ text) none h = cc
 starless_filled (c ∷ end) text none h =
-    next (after_byte c text) refl (subst (λ b. cond b (option_map_or (filled_past 2 end) (after_index text) false) (option_map_or (filled_past 0 end) (after_byte c text) false) ≡ true) (starless_any (c ∷ end) none) h)
-  where
-    next : (behind : Option (List ℕ)) → after_byte c text ≡ behind → option_map_or (filled_past 0 end) behind false ≡ true → text ≡ c ∷ end
-    next None e f = cc
-    next (Some behind) e f = byte_there c text behind e ∙ ap (λ x. c ∷ x) (starless_filled end behind (and_parts (not (eqb c (byte "*"))) (starless end) none).1 f)
+    starless_next c end text (after_byte c text) refl (λ x f. starless_filled end x (and_parts (not (eqb c (byte "*"))) (starless end) none).1 f)
+    (subst (λ b. cond b (option_map_or (filled_past 2 end) (after_index text) false) (option_map_or (filled_past 0 end) (after_byte c text) false) ≡ true) (starless_any (c ∷ end) none) h)
 
 -- what fills a pattern ends with each end of it that has no `*`
 abbrev Ends : ℕ → List ℕ → Type 0
@@ -96,8 +98,8 @@ ends zero (c ∷ front) end text none within h = ends_next (begins_with_any (c �
 
 same_next : (a b : ℕ) (end front other : List ℕ) → front ++ a ∷ end ≡ other ++ b ∷ end → a ≡ b
 same_next a b end [] [] e = ap (λ x. get_or x 0 0) e
-same_next a b end [] (x ∷ other) e = let lengths : length (a ∷ end) ≡ length ((x ∷ other) ++ b ∷ end) = ap length e in absurd (omega (arith, lengths))
-same_next a b end (x ∷ front) [] e = let lengths : length ((x ∷ front) ++ a ∷ end) ≡ length (b ∷ end) = ap length e in absurd (omega (arith, lengths))
+same_next a b end [] (x ∷ other) e = let lengths : length (a ∷ end) ≡ length ((x ∷ other) ++ b ∷ end) = ap length e in absurd (omega (arith, lengths, length-append other (b ∷ end)))
+same_next a b end (x ∷ front) [] e = let lengths : length ((x ∷ front) ++ a ∷ end) ≡ length (b ∷ end) = ap length e in absurd (omega (arith, lengths, length-append front (a ∷ end)))
 same_next a b end (x ∷ front) (y ∷ other) e = same_next a b end front other (ap (drop 1) e)
 
 -- a text that ends otherwise does not fill the pattern
@@ -110,3 +112,10 @@ ends_otherwise pattern text end before front a b p t none other =
     absurd (other (same_next a b end found.0 front (sym found.1 ∙ t))))
     (λ (none : is_filled pattern text ≡ false). none)
     (cases_Bool (is_filled pattern text))
+
+-- one more byte that was passed
+pub one_more : (whole xs before end : List ℕ) (a : ℕ) → xs ≡ before ++ a ∷ [] → whole ≡ xs ++ end → whole ≡ before ++ a ∷ end
+one_more whole xs before end a split h = h ∙ ap (λ x. x ++ end) split ∙ append_assoc before (a ∷ []) end
+
+pub starless_more : (a : ℕ) (end : List ℕ) → (a ≡ byte "*" → ⊥) → starless end ≡ true → starless (a ∷ end) ≡ true
+starless_more a end other none = ap (λ b. not b && starless end) (ne_eqb a (byte "*") other) ∙ none

@@ -9,15 +9,13 @@ use Rattle.std.proofs.lemmas.Bool.{and_parts, cases_Bool, cond-true, cond-false,
 use Rattle.std.proofs.lemmas.List.{take_all}
 use Rattle.std.proofs.lemmas.List.Elements.{All-more}
 use Rattle.std.proofs.lemmas.Slice.Eq.{bytes_eq-Decides}
-use Rattle.misra_base.specs.Guidelines.{same_guideline}
 use Rattle.misra_base.specs.declared.guideline.Guideline.{Guideline}
 use Rattle.misra_base.specs.declared.finding.Finding.{Finding}
 use Rattle.misra_base.specs.declared.deviation.Deviation.{Deviation}
 use Rattle.misra_base.specs.declared.deviation.Form.{Form}
 use Rattle.misra_base.specs.declared.deviation.Form.TheVariants.{Text, Pattern}
 use Rattle.misra_base.specs.declared.category.Plan.{Plan}
-use Rattle.compliance_core.specs.Categories.{is_mandatory, revised_category}
-use Rattle.compliance_core.specs.Covers.{does_cover, is_approved, stands_as, stands_for}
+use Rattle.compliance_core.specs.Covers.{does_cover, stands_as, stands_for}
 use Rattle.compliance_core.specs.Hashes.{HasFinding, HasFindings, HasObject, IsFilter, deviation_hash, fixed_part, hash_from, outside_from, words_hash}
 use Rattle.compliance_core.specs.Marks.{can_cover, is_other}
 use Rattle.compliance_core.specs.Patterns.{after_byte, after_digits, after_index, begins_with_any, filled_past, is_filled}
@@ -202,16 +200,3 @@ findings_more has new findings i f inside is grow before here =
 
 pub findings_done : (has : ℕ → Bool) (findings : List Finding) (i : ℕ) → length findings ≤ i → HasFindings has (take i findings) → HasFindings has findings
 findings_done has findings i ended h = subst (HasFindings has) (take_all i findings ended) h
-
--- a deviation that covers a finding is approved and has one of its hashes
-pub passed_over : (has : ℕ → Bool) (plan : Plan) (d : Deviation) (f : Finding) (passed : Bool) → passed ≡ (is_approved d.status && has (deviation_hash d)) → HasFinding has f → passed ≡ false → does_cover plan d f ≡ false
-passed_over has plan d f passed is all over =
-    ⊎_elim
-    (λ (covered : does_cover plan d f ≡ true).
-    let approved : is_approved d.status ≡ true =
-        (and_parts (is_approved d.status) (same_guideline d.guideline f.guideline && not (is_mandatory (revised_category plan d.guideline))) (and_parts (can_cover plan d f.guideline) (stands_for d.function f.function)
-        (and_parts (can_cover plan d f.guideline && stands_for d.function f.function) (stands_as d.form d.object f.object) covered).0).0).0 in
-    let both : (is_approved d.status && has (deviation_hash d)) ≡ true = ap (λ b. b && has (deviation_hash d)) approved ∙ hash_of_cover has plan d f all covered in
-    let wrong : false ≡ true = sym over ∙ is ∙ both in cc)
-    (λ (none : does_cover plan d f ≡ false). none)
-    (cases_Bool (does_cover plan d f))

@@ -41,7 +41,7 @@ cannot_cover : (plan : Plan) (d : Deviation) (g : Guideline) (f : Finding) → c
 cannot_cover plan d g f e own = covers_none plan d f (ap (can_cover plan d) (same_one f.guideline g (is_same (same_guideline f.guideline g) own)) ∙ e)
 
 -- nor does one whose hash the finding has not
-hash_is_new : (has : ℕ → Bool) (plan : Plan) (d : Deviation) (f : Finding) → HasFinding has f → has (deviation_hash d) ≡ false → does_cover plan d f ≡ false
+pub hash_is_new : (has : ℕ → Bool) (plan : Plan) (d : Deviation) (f : Finding) → HasFinding has f → has (deviation_hash d) ≡ false → does_cover plan d f ≡ false
 hash_is_new has plan d f all new =
     ⊎_elim
     (λ (covered : does_cover plan d f ≡ true). let old : has (deviation_hash d) ≡ true = hash_of_cover has plan d f all covered in cc)

@@ -1,5 +1,5 @@
 -- The least ids of deviations that cover findings, where the deviations are read once for many findings.
-use Rattle.std.proofs.Common.{◌≡◌, ◌∙◌, ℕ, ◌<◌, ◌≤◌, ◌+◌, Bool, true, false, cond, List, [], ◌∷◌, ◌++◌, length, map, fold, take, drop, replicate, get_or, set, Option, Some, None, refl, sym, ap, subst, arith, ⊎_elim, ◌⊎◌, ⊥}
+use Rattle.std.proofs.Common.{◌≡◌, ◌∙◌, ℕ, ◌<◌, ◌≤◌, ◌+◌, Bool, true, false, cond, List, [], ◌∷◌, ◌++◌, length, map, fold, take, drop, replicate, get_or, set, Option, Some, None, refl, sym, ap, subst, arith, ⊎_elim, ◌⊎◌}
 use Rattle.std.proofs.lemmas.Bool.{cases_eq, cases_lt, cond-false}
 use Rattle.std.proofs.lemmas.List.{get_or-set_other, get_or-set_same, get_or-take, get_or-replicate, get_or_past, length-replicate, map-append, take-append-drop, take_more}
 use Rattle.std.proofs.lemmas.List.Elements.{All-get_or}
