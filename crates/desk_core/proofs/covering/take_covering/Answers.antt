@@ -1,7 +1,7 @@
 use Rattle.std.proofs.Common.{arith, ◌∙◌, ap, None, get_or}
 use Rattle.std.proofs.lemmas.List.{get_or_default}
 use Rattle.desk_core.specs.Covering.{better}
-use Rattle.desk_core.proofs.Covering.{ids_behind, ids_more}
+use Rattle.desk_core.proofs.Least.{ids_behind, ids_more}
 use Rattle.desk_core.proofs.covering.take_covering.Goals as goal
 
 pub loop-i-preserved : goal.loop-i-preserved

@@ -1,6 +1,5 @@
-use Rattle.std.proofs.Common.{get_or}
 use Rattle.misra_base.specs.Rows.{has_bit}
-use Rattle.desk_core.proofs.Covering.{least_more, least_past}
+use Rattle.desk_core.proofs.Least.{least_more, least_past}
 use Rattle.desk_core.proofs.covering.take_next.Goals as goal
 
 pub returns-then-passes : goal.returns-then-passes

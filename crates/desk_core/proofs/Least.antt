@@ -1,7 +1,7 @@
 -- The least ids of deviations that cover findings, where the deviations are read once for many findings.
-use Rattle.std.proofs.Common.{◌≡◌, ◌∙◌, ℕ, ◌<◌, ◌≤◌, ◌+◌, Bool, true, false, cond, List, [], ◌∷◌, ◌++◌, length, map, fold, take, drop, replicate, get_or, set, Option, Some, None, refl, sym, ap, subst, arith, ⊎_elim, ◌⊎◌}
+use Rattle.std.proofs.Common.{◌≡◌, ◌∙◌, ℕ, ◌<◌, ◌≤◌, ◌+◌, Bool, false, cond, List, [], ◌∷◌, ◌++◌, length, map, fold, take, drop, replicate, get_or, set, Option, Some, None, sym, ap, subst, arith, ⊎_elim, ◌⊎◌}
 use Rattle.std.proofs.lemmas.Bool.{cases_eq, cases_lt, cond-false}
-use Rattle.std.proofs.lemmas.List.{get_or-set_other, get_or-set_same, get_or-take, get_or-replicate, get_or_past, length-replicate, map-append, take-append-drop, take_more}
+use Rattle.std.proofs.lemmas.List.{append-nil, get_or-set_other, get_or-set_same, get_or-take, get_or-replicate, get_or_past, length-replicate, map-append, take-append-drop, take_all, take_more}
 use Rattle.std.proofs.lemmas.List.Elements.{All-get_or}
 use Rattle.std.proofs.lemmas.List.Sums.{fold-append}
 use Rattle.misra_base.specs.declared.finding.Finding.{Finding}
@@ -40,16 +40,23 @@ least_next plan deviations k d findings ids within is h =
     let whole : take (k + 1) deviations ≡ take k deviations ++ d ∷ [] = take_more deviations k d within ∙ ap (λ x. take k deviations ++ x ∷ []) (sym is) in
     subst (λ ds. HasLeast plan ds findings ids) (sym whole) h
 
+pub least_done : (plan : Plan) (deviations : List Deviation) (findings : List Finding) (ids : List (Option ℕ)) (k : ℕ) → length deviations ≤ k
+    → HasLeast plan (take k deviations) findings ids → HasLeast plan deviations findings ids
+least_done plan deviations findings ids k ended h = subst (λ ds. HasLeast plan ds findings ids) (take_all k deviations ended) h
+
 -- ---- ids that are written
 
-pub none_first : (k i n : ℕ) → i < n → get_or (take n (replicate k (None : Option ℕ))) i None ≡ None
-none_first k i n below = get_or-take n (replicate k None) i None below ∙ none_in k i
+abbrev nothing : Option ℕ
+nothing = None
+
+pub none_first : (k i n : ℕ) → i < n → get_or (take n (replicate k nothing)) i nothing ≡ nothing
+none_first k i n below = get_or-take n (replicate k nothing) i nothing below ∙ none_in k i
   where
-    none_in : (k i : ℕ) → get_or (replicate k (None : Option ℕ)) i None ≡ None
+    none_in : (k i : ℕ) → get_or (replicate k nothing) i nothing ≡ nothing
     none_in k i =
         ⊎_elim
-        (λ (inside : i < k). get_or-replicate k i None None inside)
-        (λ (outside : k ≤ i). let short : length (replicate k (None : Option ℕ)) ≡ k = length-replicate k None in get_or_past (replicate k None) i None (omega (arith, short)))
+        (λ (inside : i < k). get_or-replicate k i nothing nothing inside)
+        (λ (outside : k ≤ i). let short : length (replicate k nothing) ≡ k = length-replicate k nothing in get_or_past (replicate k nothing) i nothing (omega (arith, short)))
         (cases_lt i k)
 
 pub ids_more : (ids : List (Option ℕ)) (i : ℕ) (v : Option ℕ) (want : ℕ → Option ℕ) → i < length ids → ((j : ℕ) → j < i → get_or ids j None ≡ want j) → v ≡ want i
@@ -65,16 +72,20 @@ ids_behind ids i v was behind j above = get_or-set_other ids i j v None (λ e. o
 
 -- ---- rows that are added
 
+pub pushed_first : (plan : Plan) (deviations : List Deviation) (findings : List Finding) (rows : List Found) → rows ≡ rows ++ found_rows plan deviations (take 0 findings)
+unfolding found_rows
+pushed_first plan deviations findings rows = sym (append-nil rows)
+
 pub pushed_more : (plan : Plan) (deviations : List Deviation) (findings : List Finding) (ids : List (Option ℕ)) (i : ℕ) (row : Found) (first rows : List Found) → i < length findings → HasLeast plan deviations findings ids
     → row.finding ≡ get_or findings i row.finding → row.deviation ≡ get_or ids i None → (new : List Found) → new ≡ rows ++ row ∷ []
     → rows ≡ first ++ found_rows plan deviations (take i findings) → new ≡ first ++ found_rows plan deviations (take (i + 1) findings)
 unfolding found_rows
 pushed_more plan deviations findings ids i row first rows inside least is id new pushed h =
     let f = row.finding in
-    let made : row ≡ found_row plan deviations (get_or findings i f) = grind (is, id, least i f inside) in
+    let made : row ≡ found_row plan deviations (get_or findings i f) = grind (arith, is, id, least i f inside) in
     let more : found_rows plan deviations (take (i + 1) findings) ≡ found_rows plan deviations (take i findings) ++ found_row plan deviations (get_or findings i f) ∷ [] =
         ap (map (found_row plan deviations)) (take_more findings i f inside) ∙ map-append (found_row plan deviations) (take i findings) (get_or findings i f ∷ []) in
-    grind (pushed, h, made, more)
+    grind (arith, pushed, h, made, more)
 
 -- ---- one chunk after another
 
@@ -86,9 +97,9 @@ rows_next plan deviations rest n chunk behind rows new all front back pushed h =
         ap (map (found_row plan deviations)) (sym (take-append-drop n rest)) ∙ map-append (found_row plan deviations) (take n rest) (drop n rest)
         ∙ ap (λ xs. map (found_row plan deviations) xs ++ map (found_row plan deviations) (drop n rest)) (sym front)
         ∙ ap (λ xs. map (found_row plan deviations) chunk ++ map (found_row plan deviations) xs) (sym back) in
-    grind (pushed, h, whole)
+    grind (arith, pushed, h, whole)
 
 pub rows_done : (plan : Plan) (deviations : List Deviation) (rest : List Finding) (rows all : List Found) → length rest ≡ 0 → rows ++ found_rows plan deviations rest ≡ all → rows ≡ all
 unfolding found_rows
-rows_done plan deviations [] rows all ended h = grind h
+rows_done plan deviations [] rows all ended h = sym (append-nil rows) ∙ h
 rows_done plan deviations (f ∷ rest) rows all ended h = absurd (omega (arith, ended))
