@@ -1,7 +1,7 @@
 -- The least ids of deviations that cover findings, where the deviations are read once for many findings.
 use Rattle.std.proofs.Common.{◌≡◌, ◌∙◌, ℕ, ◌<◌, ◌≤◌, ◌+◌, Bool, false, cond, List, [], ◌∷◌, ◌++◌, length, map, fold, take, drop, replicate, get_or, set, Option, Some, None, sym, ap, subst, arith, ⊎_elim, ◌⊎◌}
 use Rattle.std.proofs.lemmas.Bool.{cases_eq, cases_lt, cond-false}
-use Rattle.std.proofs.lemmas.List.{append-nil, get_or-set_other, get_or-set_same, get_or-take, get_or-replicate, get_or_past, length-replicate, map-append, take-append-drop, take_all, take_more}
+use Rattle.std.proofs.lemmas.List.{append-nil, append_assoc, get_or-set_other, get_or-set_same, get_or-take, get_or-replicate, get_or_past, length-replicate, map-append, take-append-drop, take_all, take_more}
 use Rattle.std.proofs.lemmas.List.Elements.{All-get_or}
 use Rattle.std.proofs.lemmas.List.Sums.{fold-append}
 use Rattle.misra_base.specs.declared.finding.Finding.{Finding}
@@ -85,7 +85,8 @@ pushed_more plan deviations findings ids i row first rows inside least is id new
     let made : row ≡ found_row plan deviations (get_or findings i f) = grind (arith, is, id, least i f inside) in
     let more : found_rows plan deviations (take (i + 1) findings) ≡ found_rows plan deviations (take i findings) ++ found_row plan deviations (get_or findings i f) ∷ [] =
         ap (map (found_row plan deviations)) (take_more findings i f inside) ∙ map-append (found_row plan deviations) (take i findings) (get_or findings i f ∷ []) in
-    grind (arith, pushed, h, made, more)
+    pushed ∙ ap (λ r. r ++ row ∷ []) h ∙ append_assoc first (found_rows plan deviations (take i findings)) (row ∷ [])
+    ∙ ap (λ r. first ++ (found_rows plan deviations (take i findings) ++ r ∷ [])) made ∙ ap (λ x. first ++ x) (sym more)
 
 -- ---- one chunk after another
 
@@ -97,7 +98,9 @@ rows_next plan deviations rest n chunk behind rows new all front back pushed h =
         ap (map (found_row plan deviations)) (sym (take-append-drop n rest)) ∙ map-append (found_row plan deviations) (take n rest) (drop n rest)
         ∙ ap (λ xs. map (found_row plan deviations) xs ++ map (found_row plan deviations) (drop n rest)) (sym front)
         ∙ ap (λ xs. map (found_row plan deviations) chunk ++ map (found_row plan deviations) xs) (sym back) in
-    grind (arith, pushed, h, whole)
+    ap (λ r. r ++ map (found_row plan deviations) behind) pushed
+    ∙ append_assoc rows (map (found_row plan deviations) chunk) (map (found_row plan deviations) behind)
+    ∙ ap (λ x. rows ++ x) (sym whole) ∙ h
 
 pub rows_done : (plan : Plan) (deviations : List Deviation) (rest : List Finding) (rows all : List Found) → length rest ≡ 0 → rows ++ found_rows plan deviations rest ≡ all → rows ≡ all
 unfolding found_rows
