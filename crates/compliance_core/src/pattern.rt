@@ -67,7 +67,10 @@ fn ends_alike(pattern: &[u8], text: &[u8]) -> bool
 {
     let mut pattern = pattern;
     let mut text = text;
-    while let (Some((last, before)), Some((end, front))) = (pattern.split_last(), text.split_last()) {
+    while let (Some((last, before)), Some((end, front))) = (
+        pattern.split_last(),
+        text.split_last(),
+    ) {
         if *last == b'*' {
             return true;
         }

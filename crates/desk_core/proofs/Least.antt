@@ -84,7 +84,7 @@ pushed_more plan deviations findings ids i row first rows inside least is id new
     let f = row.finding in
     let made : row ≡ found_row plan deviations (get_or findings i f) = grind (arith, is, id, least i f inside) in
     let more : found_rows plan deviations (take (i + 1) findings) ≡ found_rows plan deviations (take i findings) ++ found_row plan deviations (get_or findings i f) ∷ [] =
-        ap (map (found_row plan deviations)) (take_more findings i f inside) ∙ map-append (found_row plan deviations) (take i findings) (get_or findings i f ∷ []) in
+    ap (map (found_row plan deviations)) (take_more findings i f inside) ∙ map-append (found_row plan deviations) (take i findings) (get_or findings i f ∷ []) in
     pushed ∙ ap (λ r. r ++ row ∷ []) h ∙ append_assoc first (found_rows plan deviations (take i findings)) (row ∷ [])
     ∙ ap (λ r. first ++ (found_rows plan deviations (take i findings) ++ r ∷ [])) made ∙ ap (λ x. first ++ x) (sym more)
 
@@ -95,9 +95,9 @@ pub rows_next : (plan : Plan) (deviations : List Deviation) (rest : List Finding
 unfolding found_rows
 rows_next plan deviations rest n chunk behind rows new all front back pushed h =
     let whole : map (found_row plan deviations) rest ≡ map (found_row plan deviations) chunk ++ map (found_row plan deviations) behind =
-        ap (map (found_row plan deviations)) (sym (take-append-drop n rest)) ∙ map-append (found_row plan deviations) (take n rest) (drop n rest)
-        ∙ ap (λ xs. map (found_row plan deviations) xs ++ map (found_row plan deviations) (drop n rest)) (sym front)
-        ∙ ap (λ xs. map (found_row plan deviations) chunk ++ map (found_row plan deviations) xs) (sym back) in
+    ap (map (found_row plan deviations)) (sym (take-append-drop n rest)) ∙ map-append (found_row plan deviations) (take n rest) (drop n rest)
+    ∙ ap (λ xs. map (found_row plan deviations) xs ++ map (found_row plan deviations) (drop n rest)) (sym front)
+    ∙ ap (λ xs. map (found_row plan deviations) chunk ++ map (found_row plan deviations) xs) (sym back) in
     ap (λ r. r ++ map (found_row plan deviations) behind) pushed
     ∙ append_assoc rows (map (found_row plan deviations) chunk) (map (found_row plan deviations) behind)
     ∙ ap (λ x. rows ++ x) (sym whole) ∙ h

@@ -63,12 +63,7 @@ fn push_chunk(
 }
 
 /// Finds for each finding the least id of a deviation that covers it.
-fn find_least(
-    plan: &Plan,
-    deviations: &[Deviation],
-    findings: &[Finding],
-    ids: &mut [Option<u32>],
-)
+fn find_least(plan: &Plan, deviations: &[Deviation], findings: &[Finding], ids: &mut [Option<u32>])
     requires same { length findings.now ≡ length ids.old }
     requires none { (i : ℕ) → i < length findings.now → slice_index_or ids.old i None ≡ None }
     ensures { HasLeast plan.now deviations.now findings.now ids.new }
@@ -98,12 +93,7 @@ fn take_next(
 }
 
 /// Takes the id of one more deviation at the findings that it covers.
-fn take_covering(
-    plan: &Plan,
-    deviation: &Deviation,
-    findings: &[Finding],
-    ids: &mut [Option<u32>],
-)
+fn take_covering(plan: &Plan, deviation: &Deviation, findings: &[Finding], ids: &mut [Option<u32>])
     requires { length findings.now ≡ length ids.old }
     ensures { (i : ℕ) (f : Finding) → i < length findings.now
         → slice_index_or ids.new i None ≡ specs_of.better plan.now (slice_index_or findings.now i f) (slice_index_or ids.old i None) deviation.now }

@@ -1,10 +1,10 @@
+use desk_core::{act, seen};
+use desk_memory::{MemoryKeeper, SureKeeper};
 use desk_samples::{
     APPROVING, Ask, COVERED, DAY, ELEMENTS, PLANS, PROJECTS_AND_PERMITS, READING,
     REJECTING_AND_WITHDRAWING, Row, SUBMITTING_AND_RAISING, answer, caller, choice, command,
     creations, races,
 };
-use desk_core::{act, seen};
-use desk_memory::{MemoryKeeper, SureKeeper};
 use desk_tables::Keeper;
 use misra_base::{FindingList, Report};
 use std::alloc::{AllocError, Global};

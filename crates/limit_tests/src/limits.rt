@@ -183,7 +183,13 @@ fn a_caller_has_100000_kept_replies(rt: HostRuntime) -> Result<(), Fail> {
     let alloc = rt.alloc();
     let mut keeper = keeper_near_limits(alloc)?;
     for (asks, number, kind, expected) in NEAR_LIMITS {
-        let words = answered(alloc, &mut keeper, asks, number, &command_near(alloc, kind)?)?;
+        let words = answered(
+            alloc,
+            &mut keeper,
+            asks,
+            number,
+            &command_near(alloc, kind)?,
+        )?;
         assert!(rt;
             words.as_slice() == expected.as_bytes(),
             "{asks} {number} {expected}"

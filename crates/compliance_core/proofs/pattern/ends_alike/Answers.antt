@@ -12,8 +12,8 @@ loop-last-preserved c =
     let passed = c.loop-last.invariant in
     let last = here.last.now in
     let text : c.args.text.now ≡ here.front.now ++ last ∷ passed.0 =
-        one_more c.args.text.now c.loop-last.text.now here.front.now passed.0 here.end.now here.ensures'.cases.0 passed.2
-        ∙ ap (λ b. here.front.now ++ b ∷ passed.0) (sym c.if-last-end.false) in (
+    one_more c.args.text.now c.loop-last.text.now here.front.now passed.0 here.end.now here.ensures'.cases.0 passed.2
+    ∙ ap (λ b. here.front.now ++ b ∷ passed.0) (sym c.if-last-end.false) in (
       last ∷ passed.0,
       one_more c.args.pattern.now c.loop-last.pattern.now here.before.now passed.0 last here.ensures.cases.0 passed.1,
       text,
