@@ -1,0 +1,2 @@
+//! The points of a program.
+#![tactic(auto)]
