@@ -8,6 +8,7 @@ use Rattle.c_program.specs.declared.statement.Statement as statement
 use Rattle.c_program.specs.Lists.{conditions, statements}
 use Rattle.c_program.proofs.Values_of_code.{not_value, and_value, or_value, after_value, if_value, loop_value, counted_value, block_value, switch_value}
 use Rattle.control_flow.specs.Layout.{size_of, first, first_all, first_clause, first_test, first_operand}
+use Rattle.control_flow.proofs.Sizing.{sizes}
 use Rattle.control_flow.specs.Listed.{size_of_list, first_of_list, first_of_operands, first_of_clauses}
 
 pub in_statements : (all : List Statement) (n : ℕ) (h o g : List ℕ) → first_all (statements all) n h o g ≡ first_of_list all n h o g
@@ -53,7 +54,7 @@ in_or all n o g = ap (λ (k : Condition). first_test k n o g) (or_value all) ∙
 pub in_after : (s : Statement) (c : Condition) (n : ℕ) (o g : List ℕ) → first_test (condition.After s c) n o g ≡ first s n (first_test c (n + size_of s) o g) o g
 in_after s c n o g = ap (λ (k : Condition). first_test k n o g) (after_value s c)
 
-pub ruleset firsts = (in_block, in_if, in_loop, in_counted, in_switch, in_not, in_and, in_or, in_after)
+pub ruleset firsts = (in_block, in_if, in_loop, in_counted, in_switch, in_not, in_and, in_or, in_after, sizes)
 
 -- ---- what was found in parts
 

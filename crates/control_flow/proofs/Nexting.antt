@@ -1,5 +1,5 @@
 -- What comes next in a statement or a condition, as code names its cases.
-use Rattle.std.proofs.Common.{◌≡◌, ◌∙◌, refl, sym, ap, arith, true, false, nat_lt, if◌then◌else◌, ◌<◌, ℕ, suc, ◌+◌, List, [], ◌∷◌, ◌++◌, append_assoc}
+use Rattle.std.proofs.Common.{◌≡◌, ◌∙◌, refl, sym, ap, arith, subst, ◌⊎◌, inl, inr, true, false, nat_lt, if◌then◌else◌, ◌<◌, ◌≤◌, ℕ, zero, suc, ◌+◌, List, [], ◌∷◌, ◌++◌, append_assoc}
 use Rattle.c_program.specs.declared.statement.Condition.{Condition}
 use Rattle.c_program.specs.declared.statement.Condition as condition
 use Rattle.c_program.specs.declared.statement.Statement.{Statement}
@@ -10,8 +10,9 @@ use Rattle.c_program.specs.Paths.{each_turn}
 use Rattle.c_program.specs.Lists.{conditions, statements}
 use Rattle.c_program.proofs.Values_of_code.{not_value, and_value, or_value, after_value, if_value, loop_value, counted_value, block_value, switch_value}
 use Rattle.control_flow.specs.Layout.{times, size_of, test_node, step_node, size_of_test, first, first_test, first_left, firsts, nexts_of, nexts_of_all, nexts_of_each, nexts_of_test, nexts_of_and, nexts_of_or}
-use Rattle.control_flow.specs.Listed.{test_row, turn_rows, first_of_list, first_of_rest, firsts_of_list, nexts_of_list, nexts_of_clauses, nexts_where_all, nexts_where_any}
+use Rattle.control_flow.specs.Listed.{size_of_counted, test_row, turn_rows, first_of_list, first_of_rest, firsts_of_list, nexts_of_list, nexts_of_clauses, nexts_where_all, nexts_where_any}
 use Rattle.control_flow.proofs.Firsts.{in_statements}
+use Rattle.control_flow.proofs.Sizing.{sizes}
 
 in_rest : (all : List Condition) (n : ℕ) (b o g : List ℕ) → first_left (conditions all) n b o g ≡ first_of_rest all n b o g
 in_rest [] n b o g = refl
@@ -73,7 +74,7 @@ pub in_after : (s : Statement) (c : Condition) (n : ℕ) (y z o g : List ℕ) �
     ≡ nexts_of s n (first_test c (n + size_of s) o g) o g ++ nexts_of_test c (n + size_of s) y z o g
 in_after s c n y z o g = ap (λ (k : Condition). nexts_of_test k n y z o g) (after_value s c)
 
-pub ruleset nexts = (in_block, in_not, in_and, in_or)
+pub ruleset nexts = (in_block, in_not, in_and, in_or, sizes)
 
 -- ---- rows that were added one part after the other
 
@@ -236,3 +237,48 @@ counted_next old l m new s counter a a1 a2 n test h o g is e f t p q r =
   where
     begin : (n test : ℕ) → test ≡ n + 1 → test ≡ suc n + 0
     begin n test t = omega (arith, t)
+
+-- ---- the nodes of a counted loop have numbers where the last one has
+
+pub times_within : (t k c : ℕ) → t < k → times t c + c ≤ times k c
+times_within t zero c l = absurd (none t l)
+  where
+    none : (n : ℕ) → n < 0 → ⊥
+    none n l = omega arith
+times_within t (suc k) c l = elim (split t k l) [
+  | inl same ↦ subst (λ i. times i c + c ≤ times k c + c) (sym same) (least (times k c + c))
+  | inr less ↦ (let h = times_within t k c less in wider (times t c + c) (times k c) c h)
+]
+  where
+    split : (t k : ℕ) → t < suc k → (t ≡ k) ⊎ (t < k)
+    split t k l = grind arith
+
+    least : (n : ℕ) → n ≤ n
+    least n = omega arith
+
+    wider : (a b c : ℕ) → a ≤ b → a ≤ b + c
+    wider a b c l = omega arith
+
+pub first_fits : (n : ℕ) (counter : Counter) (size m : ℕ) → n + size_of_counted counter size < m → suc n + suc counter.turns < m
+first_fits n counter size m l = below n counter.turns (times counter.turns (suc size)) m l
+  where
+    below : (n turns all m : ℕ) → n + suc (suc turns + all) < m → suc n + suc turns < m
+    below n turns all m l = omega arith
+
+pub body_fits : (n : ℕ) (counter : Counter) (size m : ℕ) → n + size_of_counted counter size < m → 0 < counter.turns → size < m
+body_fits n counter size m l some = below n counter.turns (times counter.turns (suc size)) size m (times_within 0 counter.turns (suc size) some) l
+  where
+    below : (n turns all size m : ℕ) → 0 + suc size ≤ all → n + suc (suc turns + all) < m → size < m
+    below n turns all size m h l = omega arith
+
+pub turn_fits : (n : ℕ) (counter : Counter) (size m turn : ℕ) → n + size_of_counted counter size < m → turn < counter.turns → suc (step_node n counter size turn) + size < m
+turn_fits n counter size m turn l t = below n counter.turns (times counter.turns (suc size)) (times turn (suc size)) size m (times_within turn counter.turns (suc size) t) l
+  where
+    below : (n turns all now size m : ℕ) → now + suc size ≤ all → n + suc (suc turns + all) < m → suc ((suc n + suc turns) + now) + size < m
+    below n turns all now size m h l = omega arith
+
+pub test_fits : (n : ℕ) (counter : Counter) (size m turn : ℕ) → n + size_of_counted counter size < m → turn < counter.turns → test_node n turn + 1 < m
+test_fits n counter size m turn l t = below n counter.turns (times counter.turns (suc size)) m turn l t
+  where
+    below : (n turns all m turn : ℕ) → n + suc (suc turns + all) < m → turn < turns → (suc n + turn) + 1 < m
+    below n turns all m turn l t = omega arith

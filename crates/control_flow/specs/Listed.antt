@@ -3,7 +3,7 @@ use Rattle.std.specs.Prelude.{ℕ, suc, ◌+◌, nat_lt, if◌then◌else◌, Li
 use Rattle.c_program.specs.declared.statement.Condition.{Condition}
 use Rattle.c_program.specs.declared.statement.Counter.{Counter}
 use Rattle.c_program.specs.declared.statement.Statement.{Statement}
-use Rattle.control_flow.specs.Layout.{size_of, size_of_test, first, first_test, test_node, step_node, nexts_of, nexts_of_test}
+use Rattle.control_flow.specs.Layout.{times, size_of, size_of_test, first, first_test, test_node, step_node, nexts_of, nexts_of_test}
 
 abbrev pub size_of_list : List Statement → ℕ
 size_of_list [] = 0
@@ -52,6 +52,10 @@ nexts_where_any (c ∷ all) n good bad out again =
     nexts_of_test c n good (first_of_rest all (n + size_of_test c) bad out again) out again ++ nexts_where_any all (n + size_of_test c) good bad out again
 
 -- ---- a counted loop
+
+-- its nodes, with so many in its body
+abbrev pub size_of_counted : Counter → ℕ → ℕ
+size_of_counted counter size = suc (suc counter.turns + times counter.turns (suc size))
 
 -- the row of its condition in a turn
 abbrev pub test_row : Counter → Statement → ℕ → List ℕ → ℕ → List ℕ

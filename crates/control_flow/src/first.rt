@@ -1,10 +1,9 @@
 //! The node that comes first in a statement.
-ghost use Rattle.std.specs.Prelude.{◌≡◌, IfOk, option_to_list};
-ghost use Rattle.control_flow.specs.Layout.{first, first_test};
-ghost use Rattle.control_flow.specs.Listed.{first_of_list, first_of_operands, first_of_rest};
+ghost use Rattle.std.specs.Prelude.{◌≡◌, ◌<◌, ◌+◌, ◌^◌, option_to_list};
+ghost use Rattle.control_flow.specs.Layout.{size_of, size_of_test, first, first_test};
+ghost use Rattle.control_flow.specs.Listed.{size_of_list, size_of_operands, first_of_list, first_of_operands};
 
 use crate::size::{size, size_in};
-use crate::stop::{BuildStop, plus};
 use c_program::statement::{Condition, Statement};
 
 /// Where control goes from a place, by the numbers of nodes.
@@ -21,24 +20,25 @@ pub struct Targets {
 /// The node that comes first from the statement on, whose nodes begin with the n-th.
 #[cycle(first)]
 #[tactic(auto, using(crate::proofs::Firsts::firsts))]
-pub fn first_node(statement: &Statement, n: u32, targets: Targets) -> Result<Option<u32>, BuildStop>
-    ensures { IfOk result (λ found. option_to_list found ≡ first statement.now n (option_to_list targets.here) (option_to_list targets.out) (option_to_list targets.again)) }
+pub fn first_node(statement: &Statement, n: u32, targets: Targets) -> Option<u32>
+    requires { n + size_of statement.now < 2 ^ 32 }
+    ensures { option_to_list result ≡ first statement.now n (option_to_list targets.here) (option_to_list targets.out) (option_to_list targets.again) }
 {
     match statement {
-        Statement::Do(_) => Ok(Some(n)),
+        Statement::Do(_) => Some(n),
         Statement::Block(all) => first_in(all.as_slice(), n, targets),
         Statement::If(condition, _, _) => {
             first_tested(condition.get(), n, targets.out, targets.again)
         }
         Statement::Loop(a, b) => {
-            let length = size(a.get())?;
-            let place = plus(n, length)?;
+            let length = size(a.get());
+            let place = n + length;
             let inside = Targets {
                 here: None,
                 out: targets.here,
                 again: None,
             };
-            let second = first_node(b.get(), place, inside)?;
+            let second = first_node(b.get(), place, inside);
             let turn = Targets {
                 here: second,
                 out: targets.here,
@@ -46,42 +46,43 @@ pub fn first_node(statement: &Statement, n: u32, targets: Targets) -> Result<Opt
             };
             first_node(a.get(), n, turn)
         }
-        Statement::Counted(_, _) => Ok(Some(n)),
+        Statement::Counted(_, _) => Some(n),
         Statement::Switch(_, clauses) => {
             if clauses.is_empty() {
-                Ok(None)
+                None
             } else {
-                Ok(Some(n))
+                Some(n)
             }
         }
-        Statement::Break => Ok(targets.out),
-        Statement::Continue => Ok(targets.again),
+        Statement::Break => targets.out,
+        Statement::Continue => targets.again,
     }
 }
 
 /// The node that comes first from some statements on.
 #[cycle(first)]
 #[tactic(auto, using(crate::proofs::Firsts::firsts))]
-pub fn first_in(all: &[Statement], n: u32, targets: Targets) -> Result<Option<u32>, BuildStop>
-    ensures { IfOk result (λ found. option_to_list found ≡ first_of_list all.now n (option_to_list targets.here) (option_to_list targets.out) (option_to_list targets.again)) }
+pub fn first_in(all: &[Statement], n: u32, targets: Targets) -> Option<u32>
+    requires { n + size_of_list all.now < 2 ^ 32 }
+    ensures { option_to_list result ≡ first_of_list all.now n (option_to_list targets.here) (option_to_list targets.out) (option_to_list targets.again) }
 {
-    let length = size_in(all)?;
-    let mut place = plus(n, length)?;
+    let length = size_in(all);
+    let mut place = n + length;
     let mut here = targets.here;
     let mut k = all.len();
     while k > 0 {
         k -= 1;
         let one = &all[k];
-        let length = size(one)?;
+        let length = size(one);
         place -= length;
         let before = Targets {
             here,
             out: targets.out,
             again: targets.again,
         };
-        here = first_node(one, place, before)?;
+        here = first_node(one, place, before);
     }
-    Ok(here)
+    here
 }
 
 /// The node that comes first in a condition.
@@ -92,18 +93,19 @@ pub fn first_tested(
     n: u32,
     out: Option<u32>,
     again: Option<u32>,
-) -> Result<Option<u32>, BuildStop>
-    ensures { IfOk result (λ found. option_to_list found ≡ first_test condition.now n (option_to_list out) (option_to_list again)) }
+) -> Option<u32>
+    requires { n + size_of_test condition.now < 2 ^ 32 }
+    ensures { option_to_list result ≡ first_test condition.now n (option_to_list out) (option_to_list again) }
 {
     match condition {
-        Condition::Test(_) => Ok(Some(n)),
+        Condition::Test(_) => Some(n),
         Condition::Not(operand) => first_tested(operand.get(), n, out, again),
         Condition::And(all) => first_operand(all.as_slice(), n, out, again),
         Condition::Or(all) => first_operand(all.as_slice(), n, out, again),
         Condition::After(before, last) => {
-            let length = size(before.get())?;
-            let place = plus(n, length)?;
-            let here = first_tested(last.get(), place, out, again)?;
+            let length = size(before.get());
+            let place = n + length;
+            let here = first_tested(last.get(), place, out, again);
             first_node(before.get(), n, Targets { here, out, again })
         }
     }
@@ -116,11 +118,12 @@ fn first_operand(
     n: u32,
     out: Option<u32>,
     again: Option<u32>,
-) -> Result<Option<u32>, BuildStop>
-    ensures { IfOk result (λ found. option_to_list found ≡ first_of_operands all.now n (option_to_list out) (option_to_list again)) }
+) -> Option<u32>
+    requires { n + size_of_operands all.now < 2 ^ 32 }
+    ensures { option_to_list result ≡ first_of_operands all.now n (option_to_list out) (option_to_list again) }
 {
     if all.is_empty() {
-        Ok(None)
+        None
     } else {
         first_tested(&all[0], n, out, again)
     }

@@ -1,16 +1,15 @@
 //! What comes next behind each node of a statement.
-ghost use Rattle.std.specs.Prelude.{◌≡◌, ◌+◌, ◌++◌, suc, [], ◌∷◌, drop, OnOk, IfOk, option_to_list};
-ghost use Rattle.control_flow.specs.Layout.{size_of, nexts_of, nexts_of_test};
+ghost use Rattle.std.specs.Prelude.{◌≡◌, ◌<◌, ◌+◌, ◌++◌, ◌^◌, suc, [], ◌∷◌, drop, OnOk, option_to_list};
+ghost use Rattle.control_flow.specs.Layout.{size_of, size_of_test, first, nexts_of, nexts_of_test};
 ghost use Rattle.c_program.specs.Paths.{each_turn};
-ghost use Rattle.control_flow.specs.Listed.{test_row, turn_rows, first_of_rest, firsts_of_list, nexts_of_list, nexts_of_clauses, nexts_where_all, nexts_where_any};
+ghost use Rattle.control_flow.specs.Listed.{size_of_list, size_of_operands, size_of_counted, test_row, turn_rows, first_of_rest, firsts_of_list, nexts_of_list, nexts_of_clauses, nexts_where_all, nexts_where_any};
 ghost use Rattle.control_flow.specs.Rows.{nexts_in};
 
 use crate::first::{Targets, first_in, first_node, first_tested};
 use crate::rows::{Row, add_branch, add_node, add_one, add_row};
 use crate::size::{size, size_tested};
-use crate::stop::{BuildStop, plus};
 use c_program::statement::{Condition, Counter, Statement};
-use std::alloc::Global;
+use std::alloc::{AllocError, Global};
 
 /// Where control goes from a condition, by the numbers of nodes.
 #[derive(Clone, Copy)]
@@ -32,7 +31,8 @@ pub fn add(
     n: u32,
     targets: Targets,
     rows: &mut Vec<Row>,
-) -> Result<(), BuildStop>
+) -> Result<(), AllocError>
+    requires { n + size_of statement.now < 2 ^ 32 }
     ensures { OnOk result (nexts_in rows.new.items
         ≡ nexts_in rows.old.items ++ nexts_of statement.now n (option_to_list targets.here) (option_to_list targets.out) (option_to_list targets.again)) }
 {
@@ -40,12 +40,12 @@ pub fn add(
         Statement::Do(_) => add_one(alloc, rows, targets.here),
         Statement::Block(all) => add_in(alloc, all.as_slice(), n, targets, rows),
         Statement::If(condition, yes, no) => {
-            let tests = size_tested(condition.get())?;
-            let place = plus(n, tests)?;
-            let length = size(yes.get())?;
-            let behind = plus(place, length)?;
-            let good = first_node(yes.get(), place, targets)?;
-            let bad = first_node(no.get(), behind, targets)?;
+            let tests = size_tested(condition.get());
+            let place = n + tests;
+            let length = size(yes.get());
+            let behind = place + length;
+            let good = first_node(yes.get(), place, targets);
+            let bad = first_node(no.get(), behind, targets);
             let choice = Choice {
                 good,
                 bad,
@@ -57,27 +57,27 @@ pub fn add(
             add(alloc, no.get(), behind, targets, rows)
         }
         Statement::Loop(a, b) => {
-            let length = size(a.get())?;
-            let place = plus(n, length)?;
+            let length = size(a.get());
+            let place = n + length;
             let inside = Targets {
                 here: None,
                 out: targets.here,
                 again: None,
             };
-            let begin = first_node(a.get(), n, inside)?;
+            let begin = first_node(a.get(), n, inside);
             let second = Targets {
                 here: begin,
                 out: targets.here,
                 again: None,
             };
-            let next = first_node(b.get(), place, second)?;
+            let next = first_node(b.get(), place, second);
             let turn = Targets {
                 here: next,
                 out: targets.here,
                 again: next,
             };
             add(alloc, a.get(), n, turn, rows)?;
-            let round = first_node(statement, n, targets)?;
+            let round = first_node(statement, n, targets);
             let last = Targets {
                 here: round,
                 out: targets.here,
@@ -86,14 +86,12 @@ pub fn add(
             add(alloc, b.get(), place, last, rows)
         }
         Statement::Counted(counter, body) => {
-            let length = size(body.get())?;
-            let test = plus(n, 1)?;
-            add_one(alloc, rows, Some(test))?;
-            add_tests(alloc, *counter, body.get(), n, length, targets.here, rows)?;
-            add_turns(alloc, *counter, body.get(), n, length, rows)
+            add_one(alloc, rows, Some(n + 1))?;
+            add_tests(alloc, *counter, body.get(), n, targets.here, rows)?;
+            add_turns(alloc, *counter, body.get(), n, rows)
         }
         Statement::Switch(_, clauses) => {
-            let place = plus(n, 1)?;
+            let place = n + 1;
             let inside = Targets {
                 here: targets.here,
                 out: targets.here,
@@ -108,11 +106,32 @@ pub fn add(
 }
 
 /// The node of the step of a counted loop in its first turn.
-fn first_step(counter: Counter, n: u32) -> Result<u32, BuildStop>
-    ensures { IfOk result (λ step. step ≡ suc n + suc counter.turns) }
+fn first_step(counter: Counter, n: u32) -> u32
+    requires { suc n + suc counter.turns < 2 ^ 32 }
+    ensures { result ≡ suc n + suc counter.turns }
 {
-    let tests = plus(n, counter.turns)?;
-    plus(tests, 2)
+    n + counter.turns + 2
+}
+
+/// How many nodes the body of a counted loop has, if the loop has a turn.
+fn size_of_body(counter: Counter, body: &Statement) -> u32
+    requires { 0 < counter.turns → size_of body.now < 2 ^ 32 }
+    ensures { 0 < counter.turns → result ≡ size_of body.now }
+{
+    if counter.turns == 0 { 0 } else { size(body) }
+}
+
+/// The node that comes first in the body of a counted loop, whose step is given.
+fn first_of_turn(body: &Statement, step: u32) -> Option<u32>
+    requires { suc step + size_of body.now < 2 ^ 32 }
+    ensures { option_to_list result ≡ first body.now (suc step) (step ∷ []) [] (step ∷ []) }
+{
+    let inside = Targets {
+        here: Some(step),
+        out: None,
+        again: Some(step),
+    };
+    first_node(body, step + 1, inside)
 }
 
 /// Adds the rows of the condition of a counted loop.
@@ -121,25 +140,19 @@ fn add_tests(
     counter: Counter,
     body: &Statement,
     n: u32,
-    length: u32,
     here: Option<u32>,
     rows: &mut Vec<Row>,
-) -> Result<(), BuildStop>
-    requires { length ≡ size_of body.now }
+) -> Result<(), AllocError>
+    requires { n + size_of_counted counter (size_of body.now) < 2 ^ 32 }
     ensures { OnOk result (nexts_in rows.new.items
         ≡ nexts_in rows.old.items ++ each_turn (suc counter.turns) (λ turn. test_row counter body.now n (option_to_list here) turn ∷ [])) }
 {
-    let mut step = first_step(counter, n)?;
+    let length = size_of_body(counter, body);
+    let mut step = first_step(counter, n);
     for _turn in 0..counter.turns {
-        let begin = plus(step, 1)?;
-        let inside = Targets {
-            here: Some(step),
-            out: None,
-            again: Some(step),
-        };
-        let found = first_node(body, begin, inside)?;
+        let found = first_of_turn(body, step);
         add_one(alloc, rows, found)?;
-        step = plus(begin, length)?;
+        step = step + 1 + length;
     }
     add_one(alloc, rows, here)
 }
@@ -152,25 +165,25 @@ fn add_turns(
     counter: Counter,
     body: &Statement,
     n: u32,
-    length: u32,
     rows: &mut Vec<Row>,
-) -> Result<(), BuildStop>
-    requires { length ≡ size_of body.now }
+) -> Result<(), AllocError>
+    requires { n + size_of_counted counter (size_of body.now) < 2 ^ 32 }
     ensures { OnOk result (nexts_in rows.new.items ≡ nexts_in rows.old.items ++ each_turn counter.turns (turn_rows counter body.now n)) }
 {
-    let mut test = plus(n, 1)?;
-    let mut step = first_step(counter, n)?;
+    let length = size_of_body(counter, body);
+    let mut test = n + 1;
+    let mut step = first_step(counter, n);
     for _turn in 0..counter.turns {
-        test = plus(test, 1)?;
+        test += 1;
         add_one(alloc, rows, Some(test))?;
-        let begin = plus(step, 1)?;
+        let begin = step + 1;
         let inside = Targets {
             here: Some(step),
             out: None,
             again: Some(step),
         };
         add(alloc, body, begin, inside, rows)?;
-        step = plus(begin, length)?;
+        step = begin + length;
     }
     Ok(())
 }
@@ -184,16 +197,17 @@ fn add_in(
     n: u32,
     targets: Targets,
     rows: &mut Vec<Row>,
-) -> Result<(), BuildStop>
+) -> Result<(), AllocError>
+    requires { n + size_of_list all.now < 2 ^ 32 }
     ensures { OnOk result (nexts_in rows.new.items
         ≡ nexts_in rows.old.items ++ nexts_of_list all.now n (option_to_list targets.here) (option_to_list targets.out) (option_to_list targets.again)) }
 {
     let mut place = n;
     for k in 0..all.len() {
         let one = &all[k];
-        let length = size(one)?;
-        let behind = plus(place, length)?;
-        let here = first_in(&all[k + 1..], behind, targets)?;
+        let length = size(one);
+        let behind = place + length;
+        let here = first_in(&all[k + 1..], behind, targets);
         let before = Targets {
             here,
             out: targets.out,
@@ -212,7 +226,8 @@ fn add_firsts(
     n: u32,
     targets: Targets,
     rows: &mut Vec<Row>,
-) -> Result<(), BuildStop>
+) -> Result<(), AllocError>
+    requires { n + size_of_list clauses.now < 2 ^ 32 }
     ensures { OnOk result (nexts_in rows.new.items
         ≡ nexts_in rows.old.items ++ firsts_of_list clauses.now n (option_to_list targets.here) (option_to_list targets.out) (option_to_list targets.again) ∷ []) }
 {
@@ -220,10 +235,10 @@ fn add_firsts(
     let mut place = n;
     for k in 0..clauses.len() {
         let one = &clauses[k];
-        let found = first_node(one, place, targets)?;
+        let found = first_node(one, place, targets);
         add_node(&mut next, found)?;
-        let length = size(one)?;
-        place = plus(place, length)?;
+        let length = size(one);
+        place += length;
     }
     add_row(rows, next)
 }
@@ -237,7 +252,8 @@ fn add_clauses(
     n: u32,
     targets: Targets,
     rows: &mut Vec<Row>,
-) -> Result<(), BuildStop>
+) -> Result<(), AllocError>
+    requires { n + size_of_list clauses.now < 2 ^ 32 }
     ensures { OnOk result (nexts_in rows.new.items
         ≡ nexts_in rows.old.items ++ nexts_of_clauses clauses.now n (option_to_list targets.here) (option_to_list targets.out) (option_to_list targets.again)) }
 {
@@ -245,8 +261,8 @@ fn add_clauses(
     for k in 0..clauses.len() {
         let one = &clauses[k];
         add(alloc, one, place, targets, rows)?;
-        let length = size(one)?;
-        place = plus(place, length)?;
+        let length = size(one);
+        place += length;
     }
     Ok(())
 }
@@ -260,7 +276,8 @@ fn add_tested(
     n: u32,
     choice: Choice,
     rows: &mut Vec<Row>,
-) -> Result<(), BuildStop>
+) -> Result<(), AllocError>
+    requires { n + size_of_test condition.now < 2 ^ 32 }
     ensures { OnOk result (nexts_in rows.new.items
         ≡ nexts_in rows.old.items ++ nexts_of_test condition.now n (option_to_list choice.good) (option_to_list choice.bad) (option_to_list choice.out) (option_to_list choice.again)) }
 {
@@ -278,9 +295,9 @@ fn add_tested(
         Condition::And(all) => add_all(alloc, all.as_slice(), n, choice, rows),
         Condition::Or(all) => add_any(alloc, all.as_slice(), n, choice, rows),
         Condition::After(before, last) => {
-            let length = size(before.get())?;
-            let place = plus(n, length)?;
-            let here = first_tested(last.get(), place, choice.out, choice.again)?;
+            let length = size(before.get());
+            let place = n + length;
+            let here = first_tested(last.get(), place, choice.out, choice.again);
             let inside = Targets {
                 here,
                 out: choice.out,
@@ -299,13 +316,14 @@ fn first_left(
     n: u32,
     behind: Option<u32>,
     choice: Choice,
-) -> Result<Option<u32>, BuildStop>
-    ensures { IfOk result (λ found. option_to_list found ≡ first_of_rest (drop k all.now) n (option_to_list behind) (option_to_list choice.out) (option_to_list choice.again)) }
+) -> Option<u32>
+    requires { n + size_of_operands (drop k all.now) < 2 ^ 32 }
+    ensures { option_to_list result ≡ first_of_rest (drop k all.now) n (option_to_list behind) (option_to_list choice.out) (option_to_list choice.again) }
 {
     if k < all.len() {
         first_tested(&all[k], n, choice.out, choice.again)
     } else {
-        Ok(behind)
+        behind
     }
 }
 
@@ -318,16 +336,17 @@ fn add_all(
     n: u32,
     choice: Choice,
     rows: &mut Vec<Row>,
-) -> Result<(), BuildStop>
+) -> Result<(), AllocError>
+    requires { n + size_of_operands all.now < 2 ^ 32 }
     ensures { OnOk result (nexts_in rows.new.items
         ≡ nexts_in rows.old.items ++ nexts_where_all all.now n (option_to_list choice.good) (option_to_list choice.bad) (option_to_list choice.out) (option_to_list choice.again)) }
 {
     let mut place = n;
     for k in 0..all.len() {
         let one = &all[k];
-        let length = size_tested(one)?;
-        let behind = plus(place, length)?;
-        let good = first_left(all, k + 1, behind, choice.good, choice)?;
+        let length = size_tested(one);
+        let behind = place + length;
+        let good = first_left(all, k + 1, behind, choice.good, choice);
         let inside = Choice {
             good,
             bad: choice.bad,
@@ -349,16 +368,17 @@ fn add_any(
     n: u32,
     choice: Choice,
     rows: &mut Vec<Row>,
-) -> Result<(), BuildStop>
+) -> Result<(), AllocError>
+    requires { n + size_of_operands all.now < 2 ^ 32 }
     ensures { OnOk result (nexts_in rows.new.items
         ≡ nexts_in rows.old.items ++ nexts_where_any all.now n (option_to_list choice.good) (option_to_list choice.bad) (option_to_list choice.out) (option_to_list choice.again)) }
 {
     let mut place = n;
     for k in 0..all.len() {
         let one = &all[k];
-        let length = size_tested(one)?;
-        let behind = plus(place, length)?;
-        let bad = first_left(all, k + 1, behind, choice.bad, choice)?;
+        let length = size_tested(one);
+        let behind = place + length;
+        let bad = first_left(all, k + 1, behind, choice.bad, choice);
         let inside = Choice {
             good: choice.good,
             bad,

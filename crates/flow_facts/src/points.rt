@@ -33,3 +33,41 @@ pub struct Points {
     ghost each_reached: { length reached.items ≡ length (points_of numbered.graph) },
     ghost each_cyclic: { length cyclic.items ≡ length (points_of numbered.graph) },
 }
+
+impl Points {
+    /// The points that are kept in these tables: an action in its turns and a place for each node of the graph, two marks
+    /// for each point, and the number in the program of each function of the graph.
+    pub fn new(
+        numbered: NumberedPoints,
+        threads: Threads,
+        spots: Vec<Spot>,
+        order: Vec<u32>,
+        places: Vec<Place>,
+        reached: Vec<bool>,
+        cyclic: Vec<bool>,
+    ) -> Points
+        requires creations { threads.creations.items ≡ creations_of numbered.graph }
+        requires few { length threads.creations.items ≤ 64 }
+        requires each_spot { length spots.items ≡ length numbered.graph.nodes.items }
+        requires each_place { length places.items ≡ length numbered.graph.nodes.items }
+        requires each_reached { length reached.items ≡ length (points_of numbered.graph) }
+        requires each_cyclic { length cyclic.items ≡ length (points_of numbered.graph) }
+        ensures numbered { result.numbered ≡ numbered }
+        ensures threads { result.threads ≡ threads }
+        ensures spots { result.spots ≡ spots }
+        ensures order { result.order ≡ order }
+        ensures places { result.places ≡ places }
+        ensures reached { result.reached ≡ reached }
+        ensures cyclic { result.cyclic ≡ cyclic }
+    {
+        Points {
+            numbered,
+            threads,
+            spots,
+            order,
+            places,
+            reached,
+            cyclic,
+        }
+    }
+}

@@ -1,14 +1,18 @@
 -- A body in which no way is lost begins with a node.
-use Rattle.std.proofs.Common.{◌≡◌, refl, sym, subst, Bool, true, false, not, ◌&&◌, ◌||◌, ◌⊎◌, inl, inr, ℕ, zero, suc, ◌+◌, List, [], ◌∷◌, length, arith}
+use Rattle.std.proofs.Common.{◌≡◌, refl, sym, subst, Bool, true, false, not, ◌&&◌, ◌||◌, ◌⊎◌, inl, inr, ℕ, zero, suc, ◌+◌, List, [], ◌∷◌, length, slice_get, ◌<◌, arith}
+use Rattle.std.specs.Prelude.{option_map, unwrap_or}
+use Rattle.std.specs.List.{list_all}
 use Rattle.std.proofs.lemmas.Grind.{common_steps}
 use Rattle.c_program.specs.declared.action.Act.{Act}
 use Rattle.c_program.specs.declared.action.Act.TheVariants as act
 use Rattle.c_program.specs.declared.statement.Condition.{Condition, Test, And', Or', Row_of-Condition, more_of-Condition, end_of-Condition}
 use Rattle.c_program.specs.declared.statement.Statement.{Statement, Do, Block', Switch', Break, Continue, Row_of-Statement, end_of-Statement, more_of-Statement}
+use Rattle.c_program.specs.declared.program.Function.{Function}
 use Rattle.c_program.specs.declared.program.Program.{Program}
-use Rattle.c_program.specs.Syntax.{Not, After, If, Loop, Counted, act_at}
-use Rattle.c_program.specs.WellFormed.{stays_in, stay_in, condition_stays, conditions_stay, has_operand, falls, all_fall, acts, first_acts, is_switch_of, count}
+use Rattle.c_program.specs.Syntax.{Not, After, If, Loop, Counted, act_at, body_at}
+use Rattle.c_program.specs.WellFormed.{IsWellFormed, body_leads_on, stays_in, stay_in, condition_stays, conditions_stay, has_operand, falls, all_fall, acts, first_acts, is_switch_of, count}
 use Rattle.c_program.proofs.Cells.{and_true}
+use Rattle.c_program.proofs.Logic.{not_true}
 use Rattle.control_flow.specs.Layout.{size_of, first, first_all, first_clause, first_test, first_operand}
 
 abbrev pub IsFull : List ℕ → Type 0
@@ -90,3 +94,21 @@ module _ (program : Program) where
     operand_full : {k : _} (all : Row_of-Condition k) (n : ℕ) (out again : List ℕ) → has_operand all ≡ true → conditions_stay program all ≡ true → IsFull (first_operand all n out again)
     operand_full end_of-Condition n out again a h = cc
     operand_full (more_of-Condition c all) n out again a h = test_full c n out again (and_true _ _ h).0
+
+  -- ---- a body leads on, and does not go past its end
+
+  leads_in : (functions : List Function) (n : ℕ) → list_all (body_leads_on program) functions ≡ true → n < length functions
+      → (stays_in program false false (unwrap_or (option_map (λ (f : Function). f.body) (slice_get functions n)) Break) && not (falls program (unwrap_or (option_map (λ (f : Function). f.body) (slice_get functions n)) Break))) ≡ true
+  leads_in [] n e l = absurd (none n l)
+    where
+      none : (n : ℕ) → n < 0 → ⊥
+      none n l = omega arith
+  leads_in (f ∷ functions) zero e l = (and_true _ _ e).0
+  leads_in (f ∷ functions) (suc n) e l = leads_in functions n (and_true _ _ e).1 (omega (arith, l))
+
+  pub body_full : IsWellFormed program → (function n : ℕ) → function < length program.functions → IsFull (first (body_at program function) n [] [] [])
+  body_full well function n l = let p = and_true _ _ (leads_in program.functions function well.leads_on l) in
+      full (body_at program function) n [] [] [] false false p.0 (λ e. absurd (apart (not_true _ p.1) e)) (λ e. absurd (cc)) (λ e. absurd (cc))
+    where
+      apart : {b : Bool} → b ≡ false → b ≡ true → ⊥
+      apart e f = cc

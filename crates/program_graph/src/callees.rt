@@ -51,10 +51,11 @@ fn small_spots(alloc: Global, program: &Program, function: u32) -> Result<Vec<Sp
     ensures { IfOk result (λ spots. map spot_of spots.items ≡ spots_of_small program.now function) }
 {
     let body = body(program, function);
-    let mut spots = Vec::new(alloc);
-    if count(body) <= LIMIT {
-        add_spots(alloc, body, &[], &mut spots)?;
+    if count(body) > LIMIT {
+        return Ok(Vec::new(alloc));
     }
+    let mut spots = Vec::new(alloc);
+    add_spots(alloc, body, &[], &mut spots)?;
     Ok(spots)
 }
 

@@ -64,9 +64,8 @@ fn add_function(
         Err(_) => return Err(GraphStop::Memory),
     }
     let entry = match first_node(body, first, NOWHERE) {
-        Ok(Some(entry)) => entry,
-        Ok(None) => unreachable!(),
-        Err(_) => return Err(GraphStop::Memory),
+        Some(entry) => entry,
+        None => unreachable!(),
     };
     match text.functions.push(Function {
         first,
