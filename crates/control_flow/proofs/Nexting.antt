@@ -175,13 +175,13 @@ step_more n counter size turn step begin length new is long e f =
     go : (k : ℕ) → k ≡ times turn (suc size) → new ≡ (suc n + suc counter.turns) + (k + suc size)
     go k same = omega (arith, is, long, e, f, same)
 
-pub tests_more : (old rows new : List (List ℕ)) (counter : Counter) (body : Statement) (n turn step begin : ℕ) (found h : List ℕ) → turn < counter.turns
-    → step ≡ step_node n counter (size_of body) turn → begin ≡ step + 1 → found ≡ first body begin (step ∷ []) [] (step ∷ [])
+pub tests_more : (old rows new : List (List ℕ)) (counter : Counter) (body : Statement) (n turn step : ℕ) (found h : List ℕ) → turn < counter.turns
+    → step ≡ step_node n counter (size_of body) turn → found ≡ first body (suc step) (step ∷ []) [] (step ∷ [])
     → rows ≡ old ++ each_turn turn (λ t. test_row counter body n h t ∷ []) → new ≡ rows ++ found ∷ [] → new ≡ old ++ each_turn (turn + 1) (λ t. test_row counter body n h t ∷ [])
-tests_more old rows new counter body n turn step begin found h l is e p q r =
+tests_more old rows new counter body n turn step found h l is p q r =
     let S = step_node n counter (size_of body) turn in
     let row : found ≡ test_row counter body n h turn =
-    p ∙ ap (λ i. first body i (step ∷ []) [] (step ∷ [])) (begin_is step begin e) ∙ ap (λ i. first body (suc i) (i ∷ []) [] (i ∷ [])) is
+    p ∙ ap (λ i. first body (suc i) (i ∷ []) [] (i ∷ [])) is
     ∙ sym (ap (λ b. if b then first body (suc S) (S ∷ []) [] (S ∷ []) else h) (below turn counter.turns l)) in
     r ∙ ap (λ w. w ++ found ∷ []) q ∙ ap (λ w. (old ++ each_turn turn (λ t. test_row counter body n h t ∷ [])) ++ w ∷ []) row
     ∙ append_assoc old (each_turn turn (λ t. test_row counter body n h t ∷ [])) (test_row counter body n h turn ∷ [])

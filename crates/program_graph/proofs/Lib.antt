@@ -6,3 +6,4 @@ pub mod Passing
 pub mod Functions
 pub mod Graphs
 pub mod Finding
+pub mod Noded

@@ -40,24 +40,17 @@ fn nodes(
     order: &[u32],
     places: &[u32],
     spots: &[Spot],
-    rows: Vec<Row>,
+    rows: &[Row],
 ) -> Result<Vec<Node>, AllocError>
-    requires long { length spots.now ≡ length rows.items }
+    requires long { length spots.now ≡ length rows.now }
     requires found { AllFound program.now spots.now order.now places.now }
-    ensures { IfOk result (λ nodes. AreNodes program.now order.now spots.now rows.items nodes.items) }
+    ensures { IfOk result (λ nodes. AreNodes program.now order.now spots.now rows.now nodes.items) }
 {
     let mut nodes = Vec::new(alloc);
-    let mut k = 0;
-    for row in rows {
+    for k in 0..rows.len() {
         let transfer = transfer_at(program, spots[k].action, order, places);
-        add_node(
-            &mut nodes,
-            Node {
-                transfer,
-                next: row.next,
-            },
-        )?;
-        k += 1;
+        let next = rows[k].next.as_slice().to_vec(alloc)?;
+        add_node(&mut nodes, Node { transfer, next })?;
     }
     Ok(nodes)
 }
@@ -113,7 +106,7 @@ fn connect(alloc: Global, program: &Program, order: Vec<u32>) -> Result<Flow, Gr
         order.as_slice(),
         places.as_slice(),
         spots.as_slice(),
-        rows,
+        rows.as_slice(),
     ) {
         Ok(nodes) => nodes,
         Err(_) => return Err(GraphStop::Memory),
