@@ -3,8 +3,7 @@ ghost use Rattle.std.specs.Prelude.{◌≡◌, ◌<◌, ◌≤◌, ◌↔◌, �
 ghost use Rattle.flow_points.specs.PointLists.{points_of, point_at, next_points};
 ghost use Rattle.flow_points.specs.Threads.{creations_of};
 ghost use Rattle.flow_reach.specs.Paths.{IsReached};
-ghost use Rattle.graph_cycles.specs.Cycles.{IsCyclic};
-ghost use Rattle.cfg_build.specs.Tables.{AreNext, AreEdges};
+ghost use Rattle.cfg_build.specs.Tables.{AreNext, AreEdges, IsOnCycle};
 
 use flow_points::NumberedPoints;
 use flow_points::threads::Threads;
@@ -58,8 +57,9 @@ fn edges(alloc: Global, points: &NumberedPoints) -> Result<Vec<Edges>, AllocErro
 
 /// For each point whether a path leads from it to itself.
 pub(crate) fn cyclic(alloc: Global, points: &NumberedPoints) -> Result<Vec<bool>, AllocError>
-    ensures { IfOk result (λ marks. (edges : List Edges) → AreEdges points.now.graph edges → (length marks.items ≡ length edges)
-        × ((point : ℕ) → point < length edges → (slice_index_or marks.items point false ≡ true) ↔ IsCyclic edges point)) }
+    ensures long { IfOk result (λ marks. length marks.items ≡ length (points_of points.now.graph)) }
+    ensures exact { IfOk result (λ marks. (point : ℕ) → point < length (points_of points.now.graph)
+        → (slice_index_or marks.items point false ≡ true) ↔ IsOnCycle points.now.graph point) }
 {
     let edges = edges(alloc, points)?;
     cyclic_nodes(alloc, edges.as_slice())

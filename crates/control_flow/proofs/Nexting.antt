@@ -1,5 +1,5 @@
 -- What comes next in a statement or a condition, as code names its cases.
-use Rattle.std.proofs.Common.{◌≡◌, ◌∙◌, refl, sym, ap, arith, subst, ◌⊎◌, inl, inr, true, false, nat_lt, if◌then◌else◌, ◌<◌, ◌≤◌, ℕ, zero, suc, ◌+◌, List, [], ◌∷◌, ◌++◌, append_assoc}
+use Rattle.std.proofs.Common.{◌≡◌, ◌∙◌, refl, sym, ap, arith, true, false, nat_lt, if◌then◌else◌, ◌<◌, ◌≤◌, ℕ, suc, ◌+◌, List, [], ◌∷◌, ◌++◌, append_assoc}
 use Rattle.c_program.specs.declared.statement.Condition.{Condition}
 use Rattle.c_program.specs.declared.statement.Condition as condition
 use Rattle.c_program.specs.declared.statement.Statement.{Statement}
@@ -12,7 +12,7 @@ use Rattle.c_program.proofs.Values_of_code.{not_value, and_value, or_value, afte
 use Rattle.control_flow.specs.Layout.{times, size_of, test_node, step_node, size_of_test, first, first_test, first_left, firsts, nexts_of, nexts_of_all, nexts_of_each, nexts_of_test, nexts_of_and, nexts_of_or}
 use Rattle.control_flow.specs.Listed.{size_of_counted, test_row, turn_rows, first_of_list, first_of_rest, firsts_of_list, nexts_of_list, nexts_of_clauses, nexts_where_all, nexts_where_any}
 use Rattle.control_flow.proofs.Firsts.{in_statements}
-use Rattle.control_flow.proofs.Sizing.{sizes}
+use Rattle.control_flow.proofs.Sizing.{sizes, times_within}
 
 in_rest : (all : List Condition) (n : ℕ) (b o g : List ℕ) → first_left (conditions all) n b o g ≡ first_of_rest all n b o g
 in_rest [] n b o g = refl
@@ -240,25 +240,6 @@ counted_next old l m new s counter a a1 a2 n test h o g is e f t p q r =
 
 -- ---- the nodes of a counted loop have numbers where the last one has
 
-pub times_within : (t k c : ℕ) → t < k → times t c + c ≤ times k c
-times_within t zero c l = absurd (none t l)
-  where
-    none : (n : ℕ) → n < 0 → ⊥
-    none n l = omega arith
-times_within t (suc k) c l = elim (split t k l) [
-  | inl same ↦ subst (λ i. times i c + c ≤ times k c + c) (sym same) (least (times k c + c))
-  | inr less ↦ (let h = times_within t k c less in wider (times t c + c) (times k c) c h)
-]
-  where
-    split : (t k : ℕ) → t < suc k → (t ≡ k) ⊎ (t < k)
-    split t k l = grind arith
-
-    least : (n : ℕ) → n ≤ n
-    least n = omega arith
-
-    wider : (a b c : ℕ) → a ≤ b → a ≤ b + c
-    wider a b c l = omega arith
-
 pub first_fits : (n : ℕ) (counter : Counter) (size m : ℕ) → n + size_of_counted counter size < m → suc n + suc counter.turns < m
 first_fits n counter size m l = below n counter.turns (times counter.turns (suc size)) m l
   where
@@ -282,3 +263,18 @@ test_fits n counter size m turn l t = below n counter.turns (times counter.turns
   where
     below : (n turns all m turn : ℕ) → n + suc (suc turns + all) < m → turn < turns → (suc n + turn) + 1 < m
     below n turns all m turn l t = omega arith
+
+pub begin_fits : (step node size m : ℕ) → step ≡ node → suc node + size < m → step + 1 < m
+begin_fits step node size m e l = omega (arith, e, l)
+
+pub inside_fits : (step node size m : ℕ) → step ≡ node → suc node + size < m → suc step + size < m
+inside_fits step node size m e l = omega (arith, e, l)
+
+pub body_begins : (step node size m : ℕ) → step ≡ node → suc node + size < m → (step + 1) + size < m
+body_begins step node size m e l = omega (arith, e, l)
+
+pub next_fits : (step node size length m : ℕ) → step ≡ node → length ≡ size → suc node + size < m → (step + 1) + length < m
+next_fits step node size length m e f l = omega (arith, e, f, l)
+
+pub counted_fits : (n k all m : ℕ) → k ≡ all → n + all < m → n + k < m
+counted_fits n k all m e l = omega (arith, e, l)

@@ -1,5 +1,5 @@
 -- How many nodes statements have, as code names their cases.
-use Rattle.std.proofs.Common.{◌≡◌, ◌∙◌, refl, ap, sym, arith, ℕ, suc, ◌+◌, List, [], ◌∷◌}
+use Rattle.std.proofs.Common.{◌≡◌, ◌∙◌, ◌⊎◌, inl, inr, refl, ap, sym, subst, arith, ℕ, zero, suc, ◌+◌, ◌<◌, ◌≤◌, List, [], ◌∷◌}
 use Rattle.c_program.specs.declared.statement.Condition.{Condition}
 use Rattle.c_program.specs.declared.statement.Condition as condition
 use Rattle.c_program.specs.declared.statement.Counter.{Counter}
@@ -46,6 +46,33 @@ pub in_after : (s : Statement) (c : Condition) → size_of_test (condition.After
 in_after s c = ap size_of_test (after_value s c)
 
 pub ruleset sizes = (in_block, in_if, in_loop, in_counted, in_switch, in_not, in_and, in_or, in_after)
+
+-- ---- the turns of a counted loop
+
+pub times_within : (t k c : ℕ) → t < k → times t c + c ≤ times k c
+times_within t zero c l = absurd (none t l)
+  where
+    none : (n : ℕ) → n < 0 → ⊥
+    none n l = omega arith
+times_within t (suc k) c l = elim (split t k l) [
+  | inl same ↦ subst (λ i. times i c + c ≤ times k c + c) (sym same) (least (times k c + c))
+  | inr less ↦ (let h = times_within t k c less in wider (times t c + c) (times k c) c h)
+]
+  where
+    split : (t k : ℕ) → t < suc k → (t ≡ k) ⊎ (t < k)
+    split t k l = grind arith
+
+    least : (n : ℕ) → n ≤ n
+    least n = omega arith
+
+    wider : (a b c : ℕ) → a ≤ b → a ≤ b + c
+    wider a b c l = omega arith
+
+pub body_small : (turns size m : ℕ) → 0 < turns → suc (suc turns + times turns (suc size)) < m → size < m
+body_small turns size m some l = below turns (times turns (suc size)) size m (times_within 0 turns (suc size) some) l
+  where
+    below : (turns all size m : ℕ) → 0 + suc size ≤ all → suc (suc turns + all) < m → size < m
+    below turns all size m h l = omega (arith, h, l)
 
 -- ---- sums of what was found
 

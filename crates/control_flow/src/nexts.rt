@@ -152,7 +152,8 @@ fn add_tests(
     for _turn in 0..counter.turns {
         let found = first_of_turn(body, step);
         add_one(alloc, rows, found)?;
-        step = step + 1 + length;
+        let begin = step + 1;
+        step = begin + length;
     }
     add_one(alloc, rows, here)
 }

@@ -32,6 +32,8 @@ places_more order places n f here within one is = record {
       | inr last ↦ absurd (other (some_same (sym e ∙ ap (slice_get order) last ∙ here)))
     ]
 
+pub ruleset placing = (no_places, places_more)
+
 -- what the order contains has the place that the table tells
 pub found : (order places : List ℕ) (count f : ℕ) → length places ≡ count → f < count → ArePlaces order places (length order) → Contains order f → IsFound order places f
 found order places count f long within are c =

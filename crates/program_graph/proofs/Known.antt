@@ -49,6 +49,8 @@ count_small n c e l = omega arith
 pub count_large : (n c : ℕ) → c ≡ counted n → 60000 < c → 60000 < n
 count_large n c e l = omega arith
 
+pub ruleset smallness = (small_spots, large_spots, count_small, count_large)
+
 -- no spot is looked at that does not stand there
 small_in : (program : Program) (function : ℕ) (spot : Spot) → In spot (spots_of_small program function) → In spot (spots_of [] (body_at program function))
 small_in program function spot i = go (nat_lt 60000 (size_of (body_at program function))) i
@@ -75,6 +77,8 @@ pub names_more : (program : Program) (spots : List SpotOf) (spot : SpotOf) → n
 unfolding names_of
 names_more program spots spot = ap (flat_map (λ (s : Spot). option_to_list (callee_in (act_at program s.action)))) (map_push spot_of spots spot)
     ∙ flat_push (λ (s : Spot). option_to_list (callee_in (act_at program s.action))) (map spot_of spots) (spot_of spot)
+
+pub ruleset naming = (no_names, names_more)
 
 -- the action that names a function
 pub record IsNamedBy (program : Program) (spots : List Spot) (callee : ℕ) : Type 0 where

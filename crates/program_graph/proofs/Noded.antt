@@ -114,3 +114,5 @@ module _ (program : Program) (order : List ℕ) (spots : List SpotOf) (rows : Li
     acts = acts_at;
     few = few_at;
   }
+
+pub ruleset noding = (no_nodes, nodes_more)

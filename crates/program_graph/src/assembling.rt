@@ -34,6 +34,7 @@ fn add_node(nodes: &mut Vec<Node>, node: Node) -> Result<(), AllocError>
 }
 
 /// The nodes of the spots, whose next ones are those of the rows.
+#[tactic(auto, using(crate::proofs::Noded::noding))]
 fn nodes(
     alloc: Global,
     program: &Program,

@@ -46,6 +46,7 @@ pub(crate) fn body(program: &Program, function: u32) -> &Statement
 }
 
 /// The actions of a function in their turns, and none where there are more than a program may have.
+#[tactic(auto, using(crate::proofs::Known::smallness))]
 fn small_spots(alloc: Global, program: &Program, function: u32) -> Result<Vec<Spot>, AllocError>
     requires { function < length program.now.functions }
     ensures { IfOk result (λ spots. map spot_of spots.items ≡ spots_of_small program.now function) }
@@ -70,6 +71,7 @@ fn add_callee(callee: Option<u32>, functions: &mut Vec<u32>) -> Result<(), Alloc
 }
 
 /// The functions that a small function names, in the order of the text.
+#[tactic(auto, using(crate::proofs::Known::naming))]
 fn callees(alloc: Global, program: &Program, function: u32) -> Result<Callees, AllocError>
     requires { function < length program.now.functions }
     ensures { IfOk result (λ callees. callees.functions.items ≡ callees_of_small program.now function) }
@@ -84,6 +86,7 @@ fn callees(alloc: Global, program: &Program, function: u32) -> Result<Callees, A
 }
 
 /// The same of all functions.
+#[tactic(auto, using(crate::proofs::Noded::callees_more))]
 pub fn calls(alloc: Global, program: &Program) -> Result<Vec<Callees>, AllocError>
     requires few { length program.now.functions < 2 ^ 32 }
     ensures all { IfOk result (λ calls. length calls.items ≡ length program.now.functions) }

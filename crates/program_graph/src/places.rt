@@ -11,6 +11,7 @@ use flow_points::transfer::Transfer;
 use std::alloc::{AllocError, Global};
 
 /// For each function its place in the order.
+#[tactic(auto, using(crate::proofs::Finding::placing))]
 pub fn places(alloc: Global, order: &[u32], count: usize) -> Result<Vec<u32>, AllocError>
     requires few { length order.now < 2 ^ 32 }
     requires known { (place function : ℕ) → slice_get order.now place ≡ Some function → function < count }

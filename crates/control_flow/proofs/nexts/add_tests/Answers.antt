@@ -3,22 +3,39 @@ use Rattle.std.proofs.lemmas.Result.{on_ok_weaker}
 use Rattle.std.specs.Prelude.{option_to_list}
 use Rattle.control_flow.specs.Layout.{size_of}
 use Rattle.control_flow.specs.Rows.{nexts_in}
-use Rattle.control_flow.proofs.Nexting.{step_more, tests_more, tests_end, first_fits, body_fits, turn_fits}
+use Rattle.control_flow.proofs.Nexting.{step_more, tests_more, tests_end, first_fits, body_fits, turn_fits, begin_fits, inside_fits, next_fits}
 use Rattle.control_flow.proofs.nexts.add_tests.Goals as goal
 
 some_turn : (turn turns : ℕ) → turn < turns → 0 < turns
 some_turn turn turns l = omega arith
 
-pub size_of_body-requires : goal.size_of_body-requires
-size_of_body-requires c = λ some. body_fits c.args.n c.args.counter (size_of c.args.body.now) (2 ^ 32) c.requires some
+pub size_of_body-length-requires : goal.size_of_body-length-requires
+size_of_body-length-requires c = λ some. body_fits c.args.n c.args.counter (size_of c.args.body.now) (2 ^ 32) c.requires some
 
-pub first_step-requires : goal.first_step-requires
-first_step-requires c = first_fits c.args.n c.args.counter (size_of c.args.body.now) (2 ^ 32) c.requires
+pub first_step-step-requires : goal.first_step-step-requires
+first_step-step-requires c = first_fits c.args.n c.args.counter (size_of c.args.body.now) (2 ^ 32) c.requires
+
+pub first_of_turn-found-requires : goal.first_of_turn-found-requires
+first_of_turn-found-requires c =
+    let inv = c.loop-turn.invariant in
+    inside_fits c.loop-turn.step _ _ _ inv.step (turn_fits c.args.n c.args.counter (size_of c.args.body.now) (2 ^ 32) c.loop-turn._turn c.requires (omega (arith, c.loop-turn-test.true, inv.end)))
+
+pub overflow_add-begin : goal.overflow_add-begin
+overflow_add-begin c =
+    let inv = c.loop-turn.invariant in
+    begin_fits c.loop-turn.step _ _ _ inv.step (turn_fits c.args.n c.args.counter (size_of c.args.body.now) (2 ^ 32) c.loop-turn._turn c.requires (omega (arith, c.loop-turn-test.true, inv.end)))
+
+pub overflow_add-step : goal.overflow_add-step
+overflow_add-step c =
+    let inv = c.loop-turn.invariant in
+    let below : c.loop-turn._turn < c.args.counter.turns = omega (arith, c.loop-turn-test.true, inv.end) in
+    next_fits c.loop-turn.step _ _ _ _ inv.step (inv.long (some_turn c.loop-turn._turn c.args.counter.turns below))
+    (turn_fits c.args.n c.args.counter (size_of c.args.body.now) (2 ^ 32) c.loop-turn._turn c.requires below)
 
 pub loop-turn-preserved : goal.loop-turn-preserved
 loop-turn-preserved c =
     let inv = c.loop-turn.invariant in
-    let below = omega (arith, c.loop-turn-test.true, inv.end) in
+    let below : c.loop-turn._turn < c.args.counter.turns = omega (arith, c.loop-turn-test.true, inv.end) in
     let some = some_turn c.loop-turn._turn c.args.counter.turns below in
     record {
       step = step_more c.args.n c.args.counter (size_of c.args.body.now) c.loop-turn._turn c.loop-turn.step _ c.size_of_body-length.result _ inv.step (inv.long some) refl refl;

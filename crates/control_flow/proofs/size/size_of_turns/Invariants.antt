@@ -3,4 +3,4 @@ use Rattle.control_flow.specs.Layout.{times}
 use Rattle.control_flow.proofs.size.size_of_turns.Given as goal
 
 abbrev pub invariant-loop-k : goal.invariant-loop-k
-invariant-loop-k l = (l.all ≡ times l._k (suc l.body)) × (l.turn ≡ suc l.body) × (l._k-end ≡ l.turns)
+invariant-loop-k l = (l.all ≡ times l._k (suc l.body)) × (l.turn ≡ suc l.body)
