@@ -3,6 +3,7 @@ ghost use Rattle.std.specs.Prelude.{◌≡◌, ◌<◌, ◌+◌, ◌^◌, option
 ghost use Rattle.control_flow.specs.Layout.{size_of, size_of_test, first, first_test};
 ghost use Rattle.control_flow.specs.Listed.{size_of_list, size_of_operands, first_of_list, first_of_operands};
 
+use crate::parts;
 use crate::size::{size, size_in};
 use c_program::statement::{Condition, Statement};
 
@@ -26,34 +27,37 @@ pub fn first_node(statement: &Statement, n: u32, targets: Targets) -> Option<u32
 {
     match statement {
         Statement::Do(_) => Some(n),
-        Statement::Block(all) => first_in(all.as_slice(), n, targets),
-        Statement::If(condition, _, _) => {
-            first_tested(condition.get(), n, targets.out, targets.again)
+        Statement::Block(all) => {
+            let all = all.as_slice();
+            parts::block(statement, all);
+            first_in(all, n, targets)
+        }
+        Statement::If(condition, yes, no) => {
+            let condition = condition.get();
+            parts::branch(statement, condition, yes.get(), no.get());
+            first_tested(condition, n, targets.out, targets.again)
         }
         Statement::Loop(a, b) => {
-            let length = size(a.get());
+            let a = a.get();
+            let b = b.get();
+            parts::cycle(statement, a, b);
+            let length = size(a);
             let place = n + length;
             let inside = Targets {
                 here: None,
                 out: targets.here,
                 again: None,
             };
-            let second = first_node(b.get(), place, inside);
+            let second = first_node(b, place, inside);
             let turn = Targets {
                 here: second,
                 out: targets.here,
                 again: second,
             };
-            first_node(a.get(), n, turn)
+            first_node(a, n, turn)
         }
         Statement::Counted(_, _) => Some(n),
-        Statement::Switch(_, clauses) => {
-            if clauses.is_empty() {
-                None
-            } else {
-                Some(n)
-            }
-        }
+        Statement::Switch(_, clauses) => { if clauses.is_empty() { None } else { Some(n) } }
         Statement::Break => targets.out,
         Statement::Continue => targets.again,
     }
@@ -99,26 +103,36 @@ pub fn first_tested(
 {
     match condition {
         Condition::Test(_) => Some(n),
-        Condition::Not(operand) => first_tested(operand.get(), n, out, again),
-        Condition::And(all) => first_operand(all.as_slice(), n, out, again),
-        Condition::Or(all) => first_operand(all.as_slice(), n, out, again),
+        Condition::Not(operand) => {
+            let operand = operand.get();
+            parts::negation(condition, operand);
+            first_tested(operand, n, out, again)
+        }
+        Condition::And(all) => {
+            let all = all.as_slice();
+            parts::conjunction(condition, all);
+            first_operand(all, n, out, again)
+        }
+        Condition::Or(all) => {
+            let all = all.as_slice();
+            parts::disjunction(condition, all);
+            first_operand(all, n, out, again)
+        }
         Condition::After(before, last) => {
-            let length = size(before.get());
+            let before = before.get();
+            let last = last.get();
+            parts::sequence(condition, before, last);
+            let length = size(before);
             let place = n + length;
-            let here = first_tested(last.get(), place, out, again);
-            first_node(before.get(), n, Targets { here, out, again })
+            let here = first_tested(last, place, out, again);
+            first_node(before, n, Targets { here, out, again })
         }
     }
 }
 
 #[cycle(first)]
 #[tactic(auto, using(crate::proofs::Firsts::firsts))]
-fn first_operand(
-    all: &[Condition],
-    n: u32,
-    out: Option<u32>,
-    again: Option<u32>,
-) -> Option<u32>
+fn first_operand(all: &[Condition], n: u32, out: Option<u32>, again: Option<u32>) -> Option<u32>
     requires { n + size_of_operands all.now < 2 ^ 32 }
     ensures { option_to_list result ≡ first_of_operands all.now n (option_to_list out) (option_to_list again) }
 {

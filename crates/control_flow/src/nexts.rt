@@ -6,6 +6,7 @@ ghost use Rattle.control_flow.specs.Listed.{size_of_list, size_of_operands, size
 ghost use Rattle.control_flow.specs.Rows.{nexts_in};
 
 use crate::first::{Targets, first_in, first_node, first_tested};
+use crate::parts;
 use crate::rows::{Row, add_branch, add_node, add_one, add_row};
 use crate::size::{size, size_tested};
 use c_program::statement::{Condition, Counter, Statement};
@@ -38,67 +39,82 @@ pub fn add(
 {
     match statement {
         Statement::Do(_) => add_one(alloc, rows, targets.here),
-        Statement::Block(all) => add_in(alloc, all.as_slice(), n, targets, rows),
+        Statement::Block(all) => {
+            let all = all.as_slice();
+            parts::block(statement, all);
+            add_in(alloc, all, n, targets, rows)
+        }
         Statement::If(condition, yes, no) => {
-            let tests = size_tested(condition.get());
+            let condition = condition.get();
+            let yes = yes.get();
+            let no = no.get();
+            parts::branch(statement, condition, yes, no);
+            let tests = size_tested(condition);
             let place = n + tests;
-            let length = size(yes.get());
+            let length = size(yes);
             let behind = place + length;
-            let good = first_node(yes.get(), place, targets);
-            let bad = first_node(no.get(), behind, targets);
+            let good = first_node(yes, place, targets);
+            let bad = first_node(no, behind, targets);
             let choice = Choice {
                 good,
                 bad,
                 out: targets.out,
                 again: targets.again,
             };
-            add_tested(alloc, condition.get(), n, choice, rows)?;
-            add(alloc, yes.get(), place, targets, rows)?;
-            add(alloc, no.get(), behind, targets, rows)
+            add_tested(alloc, condition, n, choice, rows)?;
+            add(alloc, yes, place, targets, rows)?;
+            add(alloc, no, behind, targets, rows)
         }
         Statement::Loop(a, b) => {
-            let length = size(a.get());
+            let a = a.get();
+            let b = b.get();
+            parts::cycle(statement, a, b);
+            let length = size(a);
             let place = n + length;
             let inside = Targets {
                 here: None,
                 out: targets.here,
                 again: None,
             };
-            let begin = first_node(a.get(), n, inside);
+            let begin = first_node(a, n, inside);
             let second = Targets {
                 here: begin,
                 out: targets.here,
                 again: None,
             };
-            let next = first_node(b.get(), place, second);
+            let next = first_node(b, place, second);
             let turn = Targets {
                 here: next,
                 out: targets.here,
                 again: next,
             };
-            add(alloc, a.get(), n, turn, rows)?;
+            add(alloc, a, n, turn, rows)?;
             let round = first_node(statement, n, targets);
             let last = Targets {
                 here: round,
                 out: targets.here,
                 again: None,
             };
-            add(alloc, b.get(), place, last, rows)
+            add(alloc, b, place, last, rows)
         }
         Statement::Counted(counter, body) => {
+            let body = body.get();
+            parts::turns(statement, *counter, body);
             add_one(alloc, rows, Some(n + 1))?;
-            add_tests(alloc, *counter, body.get(), n, targets.here, rows)?;
-            add_turns(alloc, *counter, body.get(), n, rows)
+            add_tests(alloc, *counter, body, n, targets.here, rows)?;
+            add_turns(alloc, *counter, body, n, rows)
         }
-        Statement::Switch(_, clauses) => {
+        Statement::Switch(action, clauses) => {
+            let clauses = clauses.as_slice();
+            parts::selection(statement, *action, clauses);
             let place = n + 1;
             let inside = Targets {
                 here: targets.here,
                 out: targets.here,
                 again: targets.again,
             };
-            add_firsts(alloc, clauses.as_slice(), place, inside, rows)?;
-            add_clauses(alloc, clauses.as_slice(), place, inside, rows)
+            add_firsts(alloc, clauses, place, inside, rows)?;
+            add_clauses(alloc, clauses, place, inside, rows)
         }
         Statement::Break => Ok(()),
         Statement::Continue => Ok(()),
@@ -291,21 +307,34 @@ fn add_tested(
                 out: choice.out,
                 again: choice.again,
             };
-            add_tested(alloc, operand.get(), n, turned, rows)
+            let operand = operand.get();
+            parts::negation(condition, operand);
+            add_tested(alloc, operand, n, turned, rows)
         }
-        Condition::And(all) => add_all(alloc, all.as_slice(), n, choice, rows),
-        Condition::Or(all) => add_any(alloc, all.as_slice(), n, choice, rows),
+        Condition::And(all) => {
+            let all = all.as_slice();
+            parts::conjunction(condition, all);
+            add_all(alloc, all, n, choice, rows)
+        }
+        Condition::Or(all) => {
+            let all = all.as_slice();
+            parts::disjunction(condition, all);
+            add_any(alloc, all, n, choice, rows)
+        }
         Condition::After(before, last) => {
-            let length = size(before.get());
+            let before = before.get();
+            let last = last.get();
+            parts::sequence(condition, before, last);
+            let length = size(before);
             let place = n + length;
-            let here = first_tested(last.get(), place, choice.out, choice.again);
+            let here = first_tested(last, place, choice.out, choice.again);
             let inside = Targets {
                 here,
                 out: choice.out,
                 again: choice.again,
             };
-            add(alloc, before.get(), n, inside, rows)?;
-            add_tested(alloc, last.get(), place, choice, rows)
+            add(alloc, before, n, inside, rows)?;
+            add_tested(alloc, last, place, choice, rows)
         }
     }
 }

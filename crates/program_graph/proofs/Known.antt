@@ -1,5 +1,5 @@
 -- What small functions name, and orders by what is known of it.
-use Rattle.std.proofs.Common.{◌≡◌, ◌⊎◌, inl, inr, refl, sym, ap, ◌∙◌, subst, Bool, true, false, cond, nat_lt, ℕ, zero, suc, ◌+◌, ◌<◌, ◌≤◌, ◌&&◌, List, [], ◌∷◌, ◌++◌, append-nil, append_assoc, length, length-append, map, take, get_or, set, Option, Some, None, slice_get, slice_index, arith, Contains}
+use Rattle.std.proofs.Common.{◌≡◌, ◌⊎◌, inl, inr, refl, sym, ap, ◌∙◌, subst, Bool, true, false, cond, nat_lt, ℕ, zero, suc, ◌+◌, ◌<◌, ◌≤◌, ◌^◌, ◌&&◌, List, [], ◌∷◌, ◌++◌, append-nil, append_assoc, length, length-append, map, take, get_or, set, Option, Some, None, slice_get, slice_index, arith, Contains}
 use Rattle.std.specs.Prelude.{option_map, unwrap_or, option_to_list}
 use Rattle.std.specs.List.{flat_map}
 use Rattle.std.proofs.lemmas.Option.{slice_get_past, slice_get_within}
@@ -48,6 +48,19 @@ count_small n c e l = omega arith
 
 pub count_large : (n c : ℕ) → c ≡ counted n → 60000 < c → 60000 < n
 count_large n c e l = omega arith
+
+-- a body that is counted with those before it, where they are not too many
+pub length_is : (n size length nodes : ℕ) → length ≡ counted size → nodes ≡ counted (n + length) → nodes ≤ 60000 → length ≡ size
+length_is n size length nodes e f l = omega (arith, e, f, l)
+
+pub sum_is : (n size length nodes : ℕ) → length ≡ counted size → nodes ≡ counted (n + length) → nodes ≤ 60000 → nodes ≡ n + size
+sum_is n size length nodes e f l = omega (arith, e, f, l)
+
+pub sum_over : (n size length nodes : ℕ) → length ≡ counted size → nodes ≡ counted (n + length) → 60000 < nodes → 60000 < n + size
+sum_over n size length nodes e f l = omega (arith, e, f, l)
+
+pub sum_fits : (n size nodes : ℕ) → nodes ≡ n + size → nodes ≤ 60000 → n + size < 2 ^ 32
+sum_fits n size nodes e l = omega (arith, e, l)
 
 pub ruleset smallness = (small_spots, large_spots, count_small, count_large)
 

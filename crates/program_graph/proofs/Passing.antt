@@ -9,7 +9,11 @@ use Rattle.control_flow.specs.Made.{text_spots, nexts_from, IsOf, AreOf}
 use Rattle.control_flow.specs.Labels.{spot_of}
 use Rattle.control_flow.specs.Rows.{nexts_in}
 use Rattle.program_graph.specs.declared.text.Text.{Text}
+use Rattle.program_graph.specs.declared.stop.GraphStop.{GraphStop}
+use Rattle.program_graph.specs.declared.stop.GraphStop.TheVariants.{TooMany, Memory}
+use Rattle.program_graph.specs.Calls.{IsOrder}
 use Rattle.program_graph.specs.Passes.{total, IsRead}
+use Rattle.program_graph.specs.Stops.{StopsAt, StopsBy}
 
 module _ (program : Program) where
   pub total_more : (fs : List ℕ) (f : ℕ) → total program (fs ++ f ∷ []) ≡ total program fs + size_of (body_at program f)
@@ -95,3 +99,22 @@ module _ (program : Program) where
     where
       over : (nodes size before now all : ℕ) → nodes ≡ before → now ≡ before + size → now ≤ all → 60000 < nodes + size → 60000 < all
       over nodes size before now all e f l m = omega arith
+
+  pub stops_more : (order : List ℕ) (n f : ℕ) (text : Text) (stop : GraphStop) → take (n + 1) order ≡ take n order ++ f ∷ [] → IsRead program (take n order) text
+      → StopsAt (text.nodes + size_of (body_at program f)) stop → StopsAt (total program order) stop
+  stops_more order n f text TooMany e is s = too_many order n f text e is s
+  stops_more order n f text Memory e is s = tt
+
+  pub stops_by : (order : List ℕ) (stop : GraphStop) → IsOrder program order → StopsAt (total program order) stop → StopsBy program stop
+  stops_by order TooMany is s = record { order = order; is_order = is; many = s }
+  stops_by order Memory is s = tt
+
+  pub none_read : (text : Text) → text.spots.items ≡ [] → text.rows.items ≡ [] → text.functions.items ≡ [] → text.nodes ≡ 0 → IsRead program [] text
+  unfolding nexts_in
+  none_read text spots rows functions nodes = record {
+    spots = ap (map spot_of) spots;
+    rows = ap nexts_in rows;
+    functions = subst (λ l. AreOf program 0 l []) (sym functions) tt;
+    nodes = nodes;
+    few = omega (arith, nodes);
+  }

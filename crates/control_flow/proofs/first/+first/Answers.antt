@@ -1,4 +1,4 @@
-use Rattle.std.proofs.Common.{◌≡◌, ◌∙◌, refl, sym, ap, arith, ◌<◌, ◌≤◌, ◌+◌, ◌^◌, ℕ}
+use Rattle.std.proofs.Common.{◌≡◌, ◌∙◌, refl, sym, ap, arith, rules, ◌<◌, ◌≤◌, ◌+◌, ◌^◌, ℕ}
 use Rattle.std.specs.Prelude.{option_to_list}
 use Rattle.std.proofs.lemmas.Bool.{false≢true}
 use Rattle.c_program.specs.declared.statement.Condition.{Condition}
@@ -38,7 +38,7 @@ first_node-returns-in-Loop t c =
     let h = option_to_list c.args.targets.here in
     let o = option_to_list c.args.targets.out in
     let g = option_to_list c.args.targets.again in
-    c.first_node.ensures ∙ loop_first c.args.statement.now _ _ c.in-Loop.a _ c.in-Loop.b c.args.n _ _ _ h o g c.in-Loop.is c.get-in-Loop.ensures c.get-in-Loop-3.ensures c.get-in-Loop-2.ensures
+    c.first_node.ensures ∙ loop_first c.args.statement.now _ _ c.in-Loop.a _ c.in-Loop.b c.args.n _ _ _ h o g c.in-Loop.is c.get-a.ensures c.get-a.ensures c.get-b.ensures
     c.size-length.ensures refl c.first_node-second.ensures
 
 pub first_node-returns-then-is_empty : goal.first_node-returns-then-is_empty
@@ -60,40 +60,13 @@ pub first_tested-returns-in-After : goal.first_tested-returns-in-After
 first_tested-returns-in-After t c =
     let o = option_to_list c.args.out in
     let g = option_to_list c.args.again in
-    c.first_node.ensures ∙ after_first c.args.condition.now _ _ c.in-After.before _ c.in-After.last c.args.n _ _ _ o g c.in-After.is c.get-in-After.ensures c.get-in-After-3.ensures c.get-in-After-2.ensures
+    c.first_node.ensures ∙ after_first c.args.condition.now _ _ c.in-After.before _ c.in-After.last c.args.n _ _ _ o g c.in-After.is c.get-before.ensures c.get-before.ensures c.get-last.ensures
     c.size-length.ensures refl c.first_tested-here.ensures
-
-pub first_node-first_in-requires : goal.first_node-first_in-requires
-first_node-first_in-requires t c = omega (arith, c.requires, ap size_of c.in-Block.is ∙ in_block c.in-Block.all, ap size_of_list c.as_slice.ensures)
-
-pub first_node-first_tested-requires : goal.first_node-first_tested-requires
-first_node-first_tested-requires t c = omega (arith, c.requires, ap size_of c.in-If.is ∙ if_size c.in-If.condition c.in-If.field-1 c.in-If.field-2, ap size_of_test c.get.ensures)
-
-pub first_node-first_node-second-requires : goal.first_node-first_node-second-requires
-first_node-first_node-second-requires t c = omega (arith, c.requires, ap size_of c.in-Loop.is ∙ in_loop c.in-Loop.a c.in-Loop.b, c.size-length.ensures, ap size_of c.get-in-Loop.ensures, ap size_of c.get-in-Loop-2.ensures)
-
-pub first_node-first_node-requires : goal.first_node-first_node-requires
-first_node-first_node-requires t c = omega (arith, c.requires, ap size_of c.in-Loop.is ∙ in_loop c.in-Loop.a c.in-Loop.b, ap size_of c.get-in-Loop-3.ensures)
 
 pub first_node-returns-in-If : goal.first_node-returns-in-If
 first_node-returns-in-If t c =
     let h = option_to_list c.args.targets.here in
     let o = option_to_list c.args.targets.out in
     let g = option_to_list c.args.targets.again in
-    c.first_tested.ensures ∙ ap (λ (k : Condition). first_test k c.args.n o g) c.get.ensures
-    ∙ sym (ap (λ (s : Statement). first s c.args.n h o g) c.in-If.is ∙ in_if c.in-If.condition c.in-If.field-1 c.in-If.field-2 c.args.n h o g)
-
-pub first_tested-first_tested-requires : goal.first_tested-first_tested-requires
-first_tested-first_tested-requires t c = omega (arith, c.requires, ap size_of_test c.in-Not.is ∙ in_not c.in-Not.operand, ap size_of_test c.get.ensures)
-
-pub first_tested-first_operand-requires : goal.first_tested-first_operand-requires
-first_tested-first_operand-requires t c = omega (arith, c.requires, ap size_of_test c.in-And.is ∙ in_and c.in-And.all, ap size_of_operands c.as_slice.ensures)
-
-pub first_tested-first_operand-requires-in-Or : goal.first_tested-first_operand-requires-in-Or
-first_tested-first_operand-requires-in-Or t c = omega (arith, c.requires, ap size_of_test c.in-Or.is ∙ in_or c.in-Or.all, ap size_of_operands c.as_slice-in-Or.ensures)
-
-pub first_tested-first_tested-here-requires : goal.first_tested-first_tested-here-requires
-first_tested-first_tested-here-requires t c = omega (arith, c.requires, ap size_of_test c.in-After.is ∙ in_after c.in-After.before c.in-After.last, c.size-length.ensures, ap size_of c.get-in-After.ensures, ap size_of_test c.get-in-After-2.ensures)
-
-pub first_tested-first_node-requires : goal.first_tested-first_node-requires
-first_tested-first_node-requires t c = omega (arith, c.requires, ap size_of_test c.in-After.is ∙ in_after c.in-After.before c.in-After.last, ap size_of c.get-in-After-3.ensures)
+    c.first_tested.ensures ∙ ap (λ (k : Condition). first_test k c.args.n o g) c.get-condition.ensures
+    ∙ sym (ap (λ (s : Statement). first s c.args.n h o g) c.in-If.is ∙ in_if c.in-If.condition c.in-If.yes c.in-If.no c.args.n h o g)

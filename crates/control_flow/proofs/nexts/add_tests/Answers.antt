@@ -23,14 +23,16 @@ first_of_turn-found-requires c =
 pub overflow_add-begin : goal.overflow_add-begin
 overflow_add-begin c =
     let inv = c.loop-turn.invariant in
-    begin_fits c.loop-turn.step _ _ _ inv.step (turn_fits c.args.n c.args.counter (size_of c.args.body.now) (2 ^ 32) c.loop-turn._turn c.requires (omega (arith, c.loop-turn-test.true, inv.end)))
+    let fits = begin_fits c.loop-turn.step _ _ _ inv.step (turn_fits c.args.n c.args.counter (size_of c.args.body.now) (2 ^ 32) c.loop-turn._turn c.requires (omega (arith, c.loop-turn-test.true, inv.end))) in
+    omega (arith, fits)
 
 pub overflow_add-step : goal.overflow_add-step
 overflow_add-step c =
     let inv = c.loop-turn.invariant in
     let below : c.loop-turn._turn < c.args.counter.turns = omega (arith, c.loop-turn-test.true, inv.end) in
-    next_fits c.loop-turn.step _ _ _ _ inv.step (inv.long (some_turn c.loop-turn._turn c.args.counter.turns below))
-    (turn_fits c.args.n c.args.counter (size_of c.args.body.now) (2 ^ 32) c.loop-turn._turn c.requires below)
+    let fits = next_fits c.loop-turn.step _ _ _ _ inv.step (inv.long (some_turn c.loop-turn._turn c.args.counter.turns below))
+    (turn_fits c.args.n c.args.counter (size_of c.args.body.now) (2 ^ 32) c.loop-turn._turn c.requires below) in
+    omega (arith, fits)
 
 pub loop-turn-preserved : goal.loop-turn-preserved
 loop-turn-preserved c =

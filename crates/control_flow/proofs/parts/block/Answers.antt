@@ -1,0 +1,7 @@
+use Rattle.std.proofs.Common.{◌∙◌, ap}
+use Rattle.control_flow.specs.Layout.{size_of}
+use Rattle.control_flow.proofs.Sizing.{in_block}
+use Rattle.control_flow.proofs.parts.block.Goals as goal
+
+pub returns : goal.returns
+returns c = ap size_of c.requires ∙ in_block _

@@ -1,0 +1,7 @@
+use Rattle.std.proofs.Common.{◌∙◌, ap}
+use Rattle.control_flow.specs.Layout.{size_of_test}
+use Rattle.control_flow.proofs.Sizing.{in_and}
+use Rattle.control_flow.proofs.parts.conjunction.Goals as goal
+
+pub returns : goal.returns
+returns c = ap size_of_test c.requires ∙ in_and _
