@@ -1,0 +1,4 @@
+pub mod Answering
+pub mod Orders
+pub mod Outcomes
+pub mod Served
