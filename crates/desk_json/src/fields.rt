@@ -11,7 +11,7 @@ use std::alloc::{AllocError, Global};
 use std::str::FromStr;
 
 /// Whether the body is an object of so many members.
-#[tactic(auto, using(crate::proofs::Reading::counted))]
+#[tactic(auto, using(crate::proofs::Parsed::counted))]
 pub fn has_size(body: &Value, size: usize) -> bool
     ensures { result ≡ has_members size (view body.now) }
 {
@@ -42,7 +42,7 @@ pub fn name(alloc: Global, body: &Value, key: &str) -> Result<Option<Name>, Allo
 }
 
 /// The texts of a list as names.
-#[tactic(auto, using(crate::proofs::Reading::texts_next, crate::proofs::Reading::texts_stop, crate::proofs::Reading::texts_end, crate::proofs::Reading::onto_none))]
+#[tactic(auto, using(crate::proofs::Parsed::texts_next, crate::proofs::Parsed::texts_stop, crate::proofs::Parsed::texts_end, crate::proofs::Parsed::onto_none))]
 fn texts(alloc: Global, items: &[Value]) -> Result<Option<NameList>, AllocError>
     ensures { IfOk result (λ names. names ≡ texts_of (items_view items.now)) }
 {

@@ -7,7 +7,7 @@ use serde_json::Value;
 use std::alloc::{AllocError, Global};
 
 /// The value that the body is, None where it is no JSON.
-#[tactic(auto, using(crate::proofs::Reading::no_value, crate::proofs::Reading::value))]
+#[tactic(auto, using(crate::proofs::Parsed::no_value, crate::proofs::Parsed::value))]
 pub fn parse(alloc: Global, body: &[u8]) -> Result<Option<Value>, AllocError>
     ensures { IfOk result (λ value. option_map view value ≡ json_of body.now) }
 {

@@ -29,7 +29,7 @@ fn ask<K: Keeper>(alloc: Global, keeper: &mut K, order: &Order, text: &[u8]) -> 
 {
     let request = order.request.as_ref();
     let answer = act(alloc, keeper, &order.caller, request, &order.command, None);
-    Outcome::from(answer)
+    Outcome::of(answer)
 }
 
 /// What a submission comes to.
@@ -61,7 +61,7 @@ fn judge<K: Keeper>(alloc: Global, keeper: &mut K, order: &Order, text: &[u8]) -
                 &order.command,
                 Some(&report),
             );
-            Outcome::from(answer)
+            Outcome::of(answer)
         }
         Err(CheckStop::Refused(refusal)) => Outcome::Unsupported(refusal),
         Err(CheckStop::Memory) => Outcome::Stopped(DeskStop::Memory),

@@ -14,10 +14,11 @@ pub enum Outcome {
     Unsupported(Refusal),
 }
 
-impl From<Result<Reply, DeskStop>> for Outcome {
-    ghost from_gives = { λ answer outcome. outcome ≡ outcome_of answer };
-
-    fn from(answer: Result<Reply, DeskStop>) -> Outcome {
+impl Outcome {
+    /// What the machine's answer says.
+    pub fn of(answer: Result<Reply, DeskStop>) -> Outcome
+        ensures { result ≡ outcome_of answer }
+    {
         match answer {
             Ok(reply) => Outcome::Done(reply),
             Err(stop) => Outcome::Stopped(stop),

@@ -1,7 +1,7 @@
 use Rattle.std.proofs.Common.{◌≡◌, drop}
 use Rattle.serde_json.specs.View.{items_view}
 use Rattle.desk_json.specs.Bodies.{texts_of}
-use Rattle.desk_json.proofs.Reading.{onto}
+use Rattle.desk_json.proofs.Parsed.{onto}
 use Rattle.desk_json.proofs.fields.texts.Given as goal
 
 abbrev pub invariant-loop-item : goal.invariant-loop-item
