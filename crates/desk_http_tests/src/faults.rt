@@ -7,9 +7,11 @@ use std::alloc::{AllocError, Global};
 use std::test::Fail;
 
 /// A project, a deviation, its approval, and a claim.
-const CONVERSATION: &[u8] = b"POST /projects HTTP/1.1\r\nCaller: ann\r\nRequest-Id: m\r\nContent-Length: 36\r\n\r\n{\"members\":[\"ann\",\"ben\"],\"name\":\"p\"}POST /projects/p/deviations HTTP/1.1\r\nCaller: ann\r\nRequest-Id: r\r\nContent-Length: 78\r\n\r\n{\"function\":\"*\",\"guideline\":\"D5.1\",\"object\":\"x\",\"permit\":null,\"reason\":\"text\"}POST /projects/p/deviations/1/approve HTTP/1.1\r\nCaller: ben\r\nRequest-Id: a\r\n\r\nGET /projects/p/claim HTTP/1.1\r\nCaller: ann\r\n\r\n";
+const CONVERSATION: &[u8] =
+    b"POST /projects HTTP/1.1\r\nCaller: ann\r\nRequest-Id: m\r\nContent-Length: 36\r\n\r\n{\"members\":[\"ann\",\"ben\"],\"name\":\"p\"}POST /projects/p/deviations HTTP/1.1\r\nCaller: ann\r\nRequest-Id: r\r\nContent-Length: 78\r\n\r\n{\"function\":\"*\",\"guideline\":\"D5.1\",\"object\":\"x\",\"permit\":null,\"reason\":\"text\"}POST /projects/p/deviations/1/approve HTTP/1.1\r\nCaller: ben\r\nRequest-Id: a\r\n\r\nGET /projects/p/claim HTTP/1.1\r\nCaller: ann\r\n\r\n";
 
-const REPLIES: &str = "200 {\"made\":\"p\"}\n200 {\"raised\":1}\n200 {\"done\":true}\n409 {\"name\":\"NoRevision\",\"refusal\":15,\"value\":null}\n";
+const REPLIES: &str =
+    "200 {\"made\":\"p\"}\n200 {\"raised\":1}\n200 {\"done\":true}\n409 {\"name\":\"NoRevision\",\"refusal\":15,\"value\":null}\n";
 
 /// What is written where this call of the link fails, how many calls there were, and how it ended.
 fn with_fault(
@@ -23,7 +25,9 @@ fn with_fault(
 }
 
 #[test]
-fn each_failing_call_of_the_link_stops_the_session_behind_a_prefix(rt: HostRuntime) -> Result<(), Fail> {
+fn each_failing_call_of_the_link_stops_the_session_behind_a_prefix(
+    rt: HostRuntime,
+) -> Result<(), Fail> {
     let alloc = rt.alloc();
     let (whole, calls, end) = with_fault(alloc, 0)?;
     assert!(rt; end == Ok(()));
@@ -54,7 +58,9 @@ fn with_keeper_fault(alloc: Global, failing: u64) -> Result<(String, String), Al
 
 /// The four requests make ten calls of the keeper at least.
 #[test]
-fn each_failing_call_of_the_keeper_is_one_503_and_the_requests_may_come_again(rt: HostRuntime) -> Result<(), Fail> {
+fn each_failing_call_of_the_keeper_is_one_503_and_the_requests_may_come_again(
+    rt: HostRuntime,
+) -> Result<(), Fail> {
     let alloc = rt.alloc();
     for failing in 1..=10 {
         let (first, second) = with_keeper_fault(alloc, failing)?;

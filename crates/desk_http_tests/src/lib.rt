@@ -1,15 +1,14 @@
 //! Tests of the desk over HTTP: connections worked out by hand.
 #![tactic(auto)]
 
-mod pieces;
-mod talk;
-
 #[cfg(test)]
 mod faults;
+mod pieces;
 #[cfg(test)]
 mod rows;
 #[cfg(test)]
 mod table;
+mod talk;
 
 pub use pieces::Pieces;
 pub use talk::{answered, bodies, desk};

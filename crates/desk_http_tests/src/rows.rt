@@ -18,7 +18,8 @@ const NOWHERE: &[u8] = b"GET /nowhere HTTP/1.1\r\nHost: a\r\n\r\n";
 #[test]
 fn an_unknown_path_is_answered_byte_for_byte(rt: HostRuntime) -> Result<(), Fail> {
     let found = written(rt.alloc(), NOWHERE)?;
-    let expected = b"HTTP/1.1 404 Not Found\r\nContent-Type: application/json\r\nContent-Length: 13\r\n\r\n{\"error\":404}";
+    let expected =
+        b"HTTP/1.1 404 Not Found\r\nContent-Type: application/json\r\nContent-Length: 13\r\n\r\n{\"error\":404}";
     assert!(rt; found.as_slice() == expected.as_slice());
     Ok(())
 }
@@ -26,17 +27,24 @@ fn an_unknown_path_is_answered_byte_for_byte(rt: HostRuntime) -> Result<(), Fail
 #[test]
 fn another_method_is_told_the_right_one(rt: HostRuntime) -> Result<(), Fail> {
     let found = written(rt.alloc(), b"DELETE /permits HTTP/1.1\r\nHost: a\r\n\r\n")?;
-    let expected = b"HTTP/1.1 405 Method Not Allowed\r\nAllow: POST\r\nContent-Type: application/json\r\nContent-Length: 13\r\n\r\n{\"error\":405}";
+    let expected =
+        b"HTTP/1.1 405 Method Not Allowed\r\nAllow: POST\r\nContent-Type: application/json\r\nContent-Length: 13\r\n\r\n{\"error\":405}";
     assert!(rt; found.as_slice() == expected.as_slice());
     Ok(())
 }
 
 #[test]
-fn each_proper_prefix_of_a_request_but_the_empty_one_is_unreadable(rt: HostRuntime) -> Result<(), Fail> {
+fn each_proper_prefix_of_a_request_but_the_empty_one_is_unreadable(
+    rt: HostRuntime,
+) -> Result<(), Fail> {
     let alloc = rt.alloc();
     for length in 0..NOWHERE.len() {
         let found = written(alloc, &NOWHERE[..length])?;
-        let expected = if length == 0 { "" } else { "400 {\"error\":400}\n" };
+        let expected = if length == 0 {
+            ""
+        } else {
+            "400 {\"error\":400}\n"
+        };
         assert_eq!(rt; bodies(alloc, &found)?.as_str(), expected);
     }
     Ok(())

@@ -1,2 +1,3 @@
 mod Floats
+mod Lists
 mod Parsed

@@ -42,7 +42,7 @@ text_or_null (boolean b) = None
 text_or_null (number n) = None
 text_or_null (string text) = Some (Some text)
 text_or_null (array items) = None
-text_or_null (object members) = None
+text_or_null (object fields) = None
 
 abbrev pub text_or_null_at : List ℕ → Data → Option (Option (List ℕ))
 text_or_null_at key body = option_and_then text_or_null (get key body)
@@ -81,8 +81,8 @@ category_change_in project body =
 abbrev pub deviation_in : List ℕ → Data → Option Command
 deviation_in project body =
     if has_members 5 body
-    then option_and_then (λ function. option_and_then (λ guideline. option_and_then (λ object. option_and_then (λ permit. option_map
-    (λ reason. commands.Raise project guideline function object reason permit)
+    then option_and_then (λ function. option_and_then (λ guideline. option_and_then (λ target. option_and_then (λ permit. option_map
+    (λ reason. commands.Raise project guideline function target reason permit)
     (text_at (codes "reason") body)) (text_or_null_at (codes "permit") body)) (text_at (codes "object") body)) (guideline_in body)) (text_at (codes "function") body)
     else None
 

@@ -13,7 +13,7 @@ use Rattle.desk_json.specs.Replies.{count_data, text_data}
 abbrev pub command_name : Command → List ℕ
 command_name (commands.MakeProject name members) = codes "MakeProject"
 command_name (commands.Submit project length) = codes "Submit"
-command_name (commands.Raise project guideline function object reason permit) = codes "Raise"
+command_name (commands.Raise project guideline function target reason permit) = codes "Raise"
 command_name (commands.Approve project deviation) = codes "Approve"
 command_name (commands.Reject project deviation) = codes "Reject"
 command_name (commands.Withdraw project deviation) = codes "Withdraw"

@@ -62,7 +62,7 @@ claim_data revision (Some guideline) =
 
 abbrev pub reply_data : Reply → Data
 reply_data (replies.Made name) = made_data name
-reply_data (replies.Revision number findings) = revision_data number findings
+reply_data (replies.Revision revision findings) = revision_data revision findings
 reply_data (replies.Raised id) = object (member (codes "raised") (count_data id) no_members)
 reply_data replies.Done = object (member (codes "done") (boolean true) no_members)
 reply_data (replies.Summary revision rows) = summary_data revision rows

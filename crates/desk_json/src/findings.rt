@@ -39,6 +39,7 @@ fn found_value(alloc: Global, found: &Found) -> Result<Value, AllocError>
 }
 
 /// The findings of a revision, in their order.
+#[tactic(auto, using(crate::proofs::Lists::made_next, crate::proofs::Lists::made_all))]
 pub fn found_values(alloc: Global, rows: &[Found]) -> Result<Vec<Value>, AllocError>
     ensures { IfOk result (λ values. map view values.items ≡ map found_data rows.now) }
 {

@@ -19,6 +19,7 @@ fn row_value(alloc: Global, row: &SummaryRow) -> Result<Value, AllocError>
 }
 
 /// The rows of a summary, in their order.
+#[tactic(auto, using(crate::proofs::Lists::made_next, crate::proofs::Lists::made_all))]
 pub fn row_values(alloc: Global, rows: &[SummaryRow]) -> Result<Vec<Value>, AllocError>
     ensures { IfOk result (λ values. map view values.items ≡ map row_data rows.now) }
 {

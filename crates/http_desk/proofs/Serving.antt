@@ -20,7 +20,6 @@ fault_is : (stop : DeskStop) → is_keeper_fault stop ≡ true → stop ≡ stop
 fault_is stops.KeeperFault is = refl
 fault_is _ is = grind (arith, is)
 
-
 module _ (t : Tables) (order : Order) (text : List ℕ) where
   -- an error that is the machine's, or cut short, where it is a fault and where it is none
   by_fault : (fault : Bool) (step : Result Reply DeskStop × Tables) (stop : DeskStop) (after : Option Tables) (old new : ℕ) → is_keeper_fault stop ≡ fault
@@ -39,6 +38,14 @@ module _ (t : Tables) (order : Order) (text : List ℕ) where
       → Acts t step answer after → Counted answer old new → Served t order text (outcome_of answer) after old new
   acted step (Ok reply) after old new steps acts count = inl ((outcome_of step.0, step.1), steps, sym (ap outcome_of acts.0), acts.1, count)
   acted step (Err stop) after old new steps acts count = by_fault (is_keeper_fault stop) step stop after old new refl steps acts count
+
+  pub acted_as : (report : Option Report) (told : Option (List ℕ)) (answer : Result Reply DeskStop) (outcome : Outcome) (after : Option Tables) (old new : ℕ) → told ≡ order.request
+      → outcome ≡ outcome_of answer → IsStep t order text (machine_step t order report)
+      → Acts t (desk_step t order.caller told order.command report) answer after → Counted answer old new → Served t order text outcome after old new
+  acted_as report told answer outcome after old new request is steps acts count =
+      subst (λ o. Served t order text o after old new) (sym is)
+      (acted (desk_step t order.caller order.request order.command report) answer after old new steps
+      (subst (λ r. Acts t (desk_step t order.caller r order.command report) answer after) request acts) count)
 
   -- ---- which step it is
 

@@ -25,7 +25,7 @@ use Rattle.http_desk.specs.declared.outcome.Outcome.TheVariants as outcomes
 abbrev pub is_submission : Command → Bool
 is_submission (commands.MakeProject name members) = false
 is_submission (commands.Submit project length) = true
-is_submission (commands.Raise project guideline function object reason permit) = false
+is_submission (commands.Raise project guideline function target reason permit) = false
 is_submission (commands.Approve project deviation) = false
 is_submission (commands.Reject project deviation) = false
 is_submission (commands.Withdraw project deviation) = false

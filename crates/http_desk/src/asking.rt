@@ -79,11 +79,7 @@ fn order(
     }))
 }
 
-fn refused(
-    alloc: Global,
-    status: StatusCode,
-    allow: Option<Method>,
-) -> Result<Asking, AllocError>
+fn refused(alloc: Global, status: StatusCode, allow: Option<Method>) -> Result<Asking, AllocError>
     ensures { IfOk result (λ asking. asking_of asking ≡ error status allow) }
 {
     Ok(Asking::Refused(error_response(alloc, status, allow)?))

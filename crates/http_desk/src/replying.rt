@@ -33,7 +33,12 @@ pub fn reply(alloc: Global, outcome: &Outcome) -> Result<Vec<u8>, AllocError>
         Outcome::Stopped(stop) => stopped(alloc, stop),
         Outcome::Unsupported(refusal) => {
             let body = refusal_text(alloc, refusal)?;
-            response(alloc, StatusCode::UnprocessableEntity, None, body.as_bytes())
+            response(
+                alloc,
+                StatusCode::UnprocessableEntity,
+                None,
+                body.as_bytes(),
+            )
         }
     }
 }

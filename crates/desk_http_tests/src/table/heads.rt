@@ -4,22 +4,13 @@ use std::test::Fail;
 
 /// The bytes of a connection to a desk without rows, and the status and body of each of its replies.
 const CONNECTIONS: [(&[u8], &str); 29] = [
-    (
-        b"",
-        "",
-    ),
-    (
-        b"GET /nowhere HTTP/1.1\r\n",
-        "400 {\"error\":400}\n",
-    ),
+    (b"", ""),
+    (b"GET /nowhere HTTP/1.1\r\n", "400 {\"error\":400}\n"),
     (
         b"GET /nowhere HTTP/1.1\r\nCaller: ann\r\n\r\n",
         "404 {\"error\":404}\n",
     ),
-    (
-        b"GET /nowhere HTTP/1.1\n\n",
-        "404 {\"error\":404}\n",
-    ),
+    (b"GET /nowhere HTTP/1.1\n\n", "404 {\"error\":404}\n"),
     (
         b"\r\n\r\nGET /nowhere HTTP/1.1\r\nCaller: ann\r\n\r\n",
         "404 {\"error\":404}\n",
