@@ -9,7 +9,10 @@ use Rattle.desk_tables.specs.Tables.{Tables}
 use Rattle.desk_core.specs.declared.stop.DeskStop.{DeskStop}
 use Rattle.desk_core.specs.declared.stop.DeskStop.TheVariants as stops
 use Rattle.desk_core.specs.Answering.{Acts, Answers, Counted, CountedIf, IsCutShort, LeavesCutShort, is_keeper_fault}
-use Rattle.desk_core.specs.Step.{desk_step}
+use Rattle.desk_core.specs.Callers.{name_of}
+use Rattle.desk_core.specs.Rows.{project_of}
+use Rattle.desk_core.specs.Step.{desk_step, seen_answer}
+use Rattle.desk_core.specs.View.{view_of}
 use Rattle.http_desk.specs.Outcomes.{outcome_of}
 use Rattle.http_desk.specs.Served.{IsReportOf, IsStep, IsStepBy, IsSubmitted, IsUnseen, Served, Step, is_submission, machine_step, seen_of}
 use Rattle.http_desk.specs.declared.order.Order.{Order}
@@ -82,3 +85,21 @@ module _ (t : Tables) (order : Order) (text : List ℕ) where
       → (seen_of t order ≡ Err stop) ⊎ IsCutShort stop → after ≡ Some t → CountedIf (is_keeper_fault stop) old new
       → Served t order text (outcomes.Stopped stop) after old new
   seen_stop stop after old new = by_seen (is_keeper_fault stop) stop after old new refl
+
+  -- ---- what `seen` and the analysis answer
+
+  pub seen_with : (told : Option (List ℕ)) (answer : Result (Option Reply) DeskStop) → told ≡ order.request
+      → Answers (seen_answer (view_of (name_of order.caller) (project_of order.command) t) order.caller told order.command) answer → Answers (seen_of t order) answer
+  seen_with told answer is answers =
+      subst (λ r. Answers (seen_answer (view_of (name_of order.caller) (project_of order.command) t) order.caller r order.command) answer) is answers
+
+  pub repeat_served : (reply : Reply) (after : Option Tables) (old new : ℕ) → is_submission order.command ≡ true → seen_of t order ≡ Ok (Some reply) → after ≡ Some t → new ≡ old
+      → Served t order text (outcomes.Done reply) after old new
+  repeat_served reply after old new is seen same count = inl ((outcomes.Done reply, t), repeats reply is seen, refl, same, count)
+
+  pub refusal_served : (refusal : Refusal) (after : Option Tables) (faults : ℕ) → is_submission order.command ≡ true → IsUnseen t order → IsFirstFault text refusal → after ≡ Some t
+      → Served t order text (outcomes.Unsupported refusal) after faults faults
+  refusal_served refusal after faults is unseen fault same = inl ((outcomes.Unsupported refusal, t), refuses refusal is unseen fault, refl, same, refl)
+
+  pub counted_from : (outcome : Outcome) (after : Option Tables) (old now new : ℕ) → now ≡ old → Served t order text outcome after now new → Served t order text outcome after old new
+  counted_from outcome after old now new same served = subst (λ n. Served t order text outcome after n new) same served

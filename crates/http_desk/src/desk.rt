@@ -1,11 +1,11 @@
 //! The desk as a responder.
-ghost use Rattle.std.specs.Prelude.{◌≡◌, IfOk};
+ghost use Rattle.std.specs.Prelude.{◌≡◌, ℕ, List, IfOk, MatchResult};
 ghost use Rattle.http_desk.specs.Answering.{Answered, DeskState};
-ghost use Rattle.http_desk.specs.Orders.{order_of};
+ghost use Rattle.http_desk.specs.Orders.{order_of, ordered};
 
 use crate::asking::read;
 use crate::obeying::obey;
-use crate::order::Asking;
+use crate::order::{Asking, Order};
 use crate::replying::reply;
 use desk_tables::Keeper;
 use http_routes::Routes;
@@ -47,11 +47,23 @@ impl<K: Keeper + Drop> Responder for Desk<K> {
     ) -> Result<Vec<u8>, AllocError> {
         match read(alloc, &self.routes, front, fields, head, body) {
             Ok(Asking::Refused(reply)) => Ok(reply),
-            Ok(Asking::Ordered(order)) => {
-                let outcome = obey(alloc, &mut self.keeper, &order, body);
-                reply(alloc, &outcome)
-            }
+            Ok(Asking::Ordered(order)) => answer(alloc, &mut self.keeper, &order, body),
             Err(error) => Err(error),
         }
     }
+}
+
+/// The reply to an order, after it was obeyed. Without memory for the reply it was obeyed all the same.
+fn answer<K: Keeper>(
+    alloc: Global,
+    keeper: &mut K,
+    order: &Order,
+    body: &[u8],
+) -> Result<Vec<u8>, AllocError>
+    ensures reply { MatchResult result
+        (λ reply. Answered (ordered order.now) body.now (record { tables = K.tables keeper.old; faults = K.faults keeper.old }) reply.items (record { tables = K.tables keeper.new; faults = K.faults keeper.new }))
+        (λ _. (reply : List ℕ) × Answered (ordered order.now) body.now (record { tables = K.tables keeper.old; faults = K.faults keeper.old }) reply (record { tables = K.tables keeper.new; faults = K.faults keeper.new })) }
+{
+    let outcome = obey(alloc, keeper, order, body);
+    reply(alloc, &outcome)
 }
