@@ -2,15 +2,15 @@
 #![tactic(auto)]
 
 mod asking;
+mod connection;
 mod desk;
 mod fields;
 mod obeying;
 mod order;
 mod outcome;
 mod replying;
-mod session;
 
+pub use connection::session;
 pub use desk::Desk;
 pub use order::{Asking, Order};
 pub use outcome::Outcome;
-pub use session::session;
