@@ -5,7 +5,7 @@ use compliance_core::misra_plan;
 use desk_memory::MemoryKeeper;
 use desk_tables::{Change, KeepStop, Keeper, ProjectRow, Write};
 use misra_base::{Deviation, Form, Guideline, Permit, Status};
-use sqlite::{Connection, Error, Transaction, Alter};
+use sqlite::{Connection, Error};
 use std::alloc::{AllocError, Global};
 use std::fs;
 use std::test::Fail;

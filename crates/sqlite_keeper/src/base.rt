@@ -1,6 +1,6 @@
 use crate::statements::{Counting, ProjectWrites, Queries, RowWrites};
 use crate::stop::Stop;
-use sqlite::{Alter, Connection};
+use sqlite::{Alter, Connection, File, FileStore};
 
 /// A database with the tables, and its statements.
 #[derive(Drop)]
@@ -26,5 +26,12 @@ impl<S: Alter + Drop> Base<S> {
             projects,
             rows,
         })
+    }
+}
+
+impl Base<FileStore<File>> {
+    /// Copies the log into the file, where that can be done: else the log keeps it.
+    pub fn close(self) {
+        let _ = self.connection.close();
     }
 }

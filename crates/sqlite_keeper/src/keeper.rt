@@ -13,8 +13,8 @@ use std::alloc::Global;
 
 /// A keeper over a database file, which it opens at its first call, and again at the first call after
 /// a fault. A file that is refused, a statement that is, and a stored row outside its form are faults,
-/// unless memory was wanting. Each change is one transaction.
-#[derive(Drop)]
+/// unless memory was wanting. Each change is one transaction. A keeper that is dropped copies the log of
+/// the file into the file.
 pub struct FileKeeper {
     rt: HostRuntime,
     file: Name,
@@ -48,6 +48,20 @@ impl FileKeeper {
                 self.faults = self.faults.saturating_add(1);
                 Err(KeepStop::Failed)
             }
+        }
+    }
+}
+
+impl Drop for FileKeeper {
+    fn drop(self) {
+        let FileKeeper {
+            rt: _,
+            file: _,
+            base,
+            faults: _,
+        } = self;
+        if let Some(base) = base {
+            base.close();
         }
     }
 }
