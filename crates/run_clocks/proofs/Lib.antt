@@ -1,0 +1,4 @@
+pub mod Accessing
+pub mod Moments
+pub mod Breaking
+pub mod Telling

@@ -1,0 +1,4 @@
+pub mod Choices
+pub mod Steps
+pub mod Ends
+pub mod Replays
