@@ -2,3 +2,4 @@ pub mod Accessing
 pub mod Moments
 pub mod Breaking
 pub mod Telling
+pub mod Hearing

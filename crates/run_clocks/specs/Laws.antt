@@ -27,6 +27,9 @@ pub record Heard (program : Program) (run : List Choice) : Type 0 where
   pub are_taken : (n : ℕ) → Lists (run_of program run n).takes (takes n)
   pub are_read : (n : ℕ) → ListsValues (run_of program run) n (reads n)
 
+abbrev pub EachRunIsHeard : Program → Type 0
+EachRunIsHeard program = (run : List Choice) → Heard program run
+
 -- each thread counts its steps; a step is told by its thread and its number there, from 0
 abbrev pub ClocksTellBefore : Program → Type 0
 ClocksTellBefore program = (run : List Choice) (heard : Heard program run) (i n : ℕ) → IsGoodRun program run → i < n → n < length run

@@ -1,5 +1,5 @@
 //! Happens before and races of a program's runs are those that clocks tell.
-ghost use Rattle.run_clocks.specs.Laws.{BeforeIsOfSteps, ClocksTellBefore, ClocksTellRaces, RacesAreOfSteps};
+ghost use Rattle.run_clocks.specs.Laws.{BeforeIsOfSteps, EachRunIsHeard, ClocksTellBefore, ClocksTellRaces, RacesAreOfSteps};
 
 use c_program::Program;
 
@@ -14,6 +14,7 @@ pub fn of_steps(program: &Program)
 /// there; and a run breaks Dir 5.1 exactly where the last access of some thread to a data cell conflicts with the last
 /// step and is not among what its clock tells.
 pub fn by_clocks(program: &Program)
+    ensures heard { EachRunIsHeard program.now }
     ensures before { ClocksTellBefore program.now }
     ensures races { ClocksTellRaces program.now }
 {}

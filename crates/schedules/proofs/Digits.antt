@@ -64,7 +64,7 @@ empty_is_none (x ∷ xs) most is = cc
 
 pub zero_leads : (xs : List ℕ) (most : ℕ) → 1 < length xs → get_or xs 0 0 ≡ 48 → None ≡ number_up_to most xs
 zero_leads [] most long is = refl
-zero_leads (x ∷ []) most long is = omega arith
+zero_leads (x ∷ []) most long is = absurd (omega arith)
 zero_leads (x ∷ y ∷ xs) most long is =
     chosen_none (is_numeral (x ∷ y ∷ xs)) (nat_le (digits_value 10 (x ∷ y ∷ xs)) most) (digits_value 10 (x ∷ y ∷ xs)) (ap (λ b. not b && list_all is_ascii_digit (x ∷ y ∷ xs)) (eq-eqb x 48 is))
 
@@ -76,7 +76,7 @@ does_not_lead (x ∷ []) other = refl
 does_not_lead (x ∷ y ∷ xs) other = ne_eqb x 48 (other (omega (arith)))
 
 is_numeral_where : (xs : List ℕ) → 0 < length xs → has_leading_zero xs ≡ false → list_all is_ascii_digit xs ≡ true → is_numeral xs ≡ true
-is_numeral_where [] some short all = omega arith
+is_numeral_where [] some short all = absurd (omega arith)
 is_numeral_where (x ∷ xs) some short all = ap (λ b. not b && list_all is_ascii_digit (x ∷ xs)) short ∙ all
 
 chosen_some : (a b : Bool) (n : ℕ) → a ≡ true → b ≡ true → Some n ≡ (if a && b then Some n else None)

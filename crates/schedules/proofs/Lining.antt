@@ -1,5 +1,5 @@
 -- The lines of a text, one after the other.
-use Rattle.std.proofs.Common.{◌≡◌, ◌<◌, ◌≤◌, ◌+◌, ℕ, suc, Bool, true, false, ◌==◌, List, [], ◌∷◌, ◌++◌, length, map, refl, sym, ap, ◌∙◌, subst, arith, Some, None, Option, Ok, Err, append_assoc, length-append, add-suc, add-zero, add-one}
+use Rattle.std.proofs.Common.{◌≡◌, ◌<◌, ◌≤◌, ◌+◌, ℕ, suc, Bool, true, false, ◌==◌, List, [], ◌∷◌, ◌++◌, length, map, refl, sym, ap, ◌∙◌, subst, arith, Some, None, Option, Ok, Err, append_assoc, length-append, zero-add}
 use Rattle.std.specs.List.{slice_split, filter_map, position_from}
 use Rattle.std.specs.Option.{is_none}
 use Rattle.std.proofs.lemmas.List.Splits.{length-slice_split}
@@ -10,7 +10,7 @@ use Rattle.schedules.specs.Schedules.{schedule_in, judged}
 
 -- a line that an LF ends, and what stands behind it
 from_ended : (line : List ℕ) (pieces : List (List ℕ)) → 0 < length pieces → lines_in (line ∷ pieces) ≡ choice_of_line line ∷ lines_in pieces
-from_ended line [] some = omega arith
+from_ended line [] some = absurd (omega arith)
 from_ended line (next ∷ more) some = refl
 
 pub ended_line : (text line behind : List ℕ) → slice_split (λ b. b == 10) text ≡ line ∷ slice_split (λ b. b == 10) behind
@@ -19,11 +19,14 @@ ended_line text line behind is =
     ap lines_in is ∙ from_ended line (slice_split (λ b. b == 10) behind) (let e : length (slice_split (λ b. b == 10) behind) ≡ _ = length-slice_split (λ b. b == 10) behind in omega (arith, e))
 
 not_empty : (text : List ℕ) → 0 < length text → unended text ≡ None ∷ []
-not_empty [] some = omega arith
+not_empty [] some = absurd (omega arith)
 not_empty (b ∷ bs) some = refl
 
 pub unended_line : (text : List ℕ) → 0 < length text → slice_split (λ b. b == 10) text ≡ text ∷ [] → lines text ≡ None ∷ []
 unended_line text some is = ap lines_in is ∙ not_empty text some
+
+pub counted_ended : (text line behind : List ℕ) → slice_split (λ b. b == 10) text ≡ line ∷ slice_split (λ b. b == 10) behind → length (lines text) ≡ suc (length (lines behind))
+counted_ended text line behind is = ap length (ended_line text line behind is)
 
 pub first_outside : (text : List ℕ) (o : Option Choice) (more : List (Option Choice)) → lines text ≡ o ∷ more → o ≡ None → first_written text ≡ Some None
 first_outside text o more is none = ap first_of is ∙ ap Some none
@@ -38,8 +41,12 @@ all_read (c ∷ choices) n = let rest : (position_from is_none (n + 1) (map Some
 pub read_all : (text : List ℕ) (choices : List Choice) → lines text ≡ map Some choices ++ [] → schedule_in (lines text) ≡ Ok choices
 read_all text choices is = ap schedule_in is ∙ ap (λ o. judged o (map Some choices ++ [])) (all_read choices 1).0 ∙ ap Ok (all_read choices 1).1
 
+pub read_to_end : (text rest : List ℕ) (choices : List Choice) → length rest ≡ 0 → lines text ≡ map Some choices ++ lines rest → schedule_in (lines text) ≡ Ok choices
+read_to_end text [] choices end is = read_all text choices is
+read_to_end text (b ∷ bs) choices end is = absurd (omega arith)
+
 first_place : (choices : List Choice) (n : ℕ) (more : List (Option Choice)) → position_from is_none n (map Some choices ++ None ∷ more) ≡ Some (length choices + n)
-first_place [] n more = refl
+first_place [] n more = ap Some (sym (zero-add n))
 first_place (c ∷ choices) n more = first_place choices (n + 1) more ∙ ap Some (omega arith)
 
 outside_first : (all more : List (Option Choice)) (choices : List Choice) → all ≡ map Some choices ++ more → first_of more ≡ Some None

@@ -26,7 +26,7 @@ pub fn choice_of(line: &[u8]) -> Option<Choice>
 }
 
 /// The values of the fields that are left, three at most, and how many they are.
-#[tactic(auto, using(crate::proofs::Values::one_filled, crate::proofs::Values::full, crate::proofs::Values::filled_from_none))]
+#[tactic(auto, using(crate::proofs::Values::too_many, crate::proofs::Values::next_filled, crate::proofs::Values::none_filled, crate::proofs::Values::all_filled))]
 fn values_in(fields: Option<&[u8]>) -> Option<([i128; 3], u8)>
     ensures { result ≡ values_of (map value_in (pieces_behind 32 (option_copied fields.entry))) }
 {

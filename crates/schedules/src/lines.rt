@@ -7,7 +7,7 @@ use crate::cuts::cut;
 use crate::fields::choice_of;
 
 /// What stands behind the first line.
-#[tactic(auto, using(crate::proofs::Lining::ended_line, crate::proofs::Lining::unended_line))]
+#[tactic(auto, using(crate::proofs::Lining::counted_ended, crate::proofs::Lining::unended_line))]
 fn behind_line(text: &[u8]) -> &[u8]
     requires { 0 < length text.now }
     ensures shorter { length result.now < length text.now }
@@ -41,6 +41,8 @@ pub fn first_choice(text: &[u8]) -> Option<(Choice, &[u8])>
 {
     let (line, behind) = cut(text, b'\n');
     let behind = behind?;
-    let choice = choice_of(line)?;
-    Some((choice, behind))
+    match choice_of(line) {
+        Some(choice) => Some((choice, behind)),
+        None => None,
+    }
 }

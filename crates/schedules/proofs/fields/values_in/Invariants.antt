@@ -7,7 +7,7 @@ use Rattle.schedules.proofs.Values.{filled}
 use Rattle.schedules.proofs.fields.values_in.Given as goal
 
 abbrev pub decreases-loop-rest : goal.decreases-loop-rest
-decreases-loop-rest l = option_map_or (λ text. length text + 1) 0 (option_copied l.rest)
+decreases-loop-rest l = option_map_or (λ text. length text + 1) (option_copied l.rest) 0
 
 abbrev pub invariant-loop-rest : goal.invariant-loop-rest
 invariant-loop-rest l = (l.count ≤ 3)
