@@ -5,16 +5,15 @@ use Rattle.c_program.specs.declared.program.Program.{Program}
 use Rattle.c_program.specs.Types.{same_numbers}
 use Rattle.c_program.specs.Values.{Root, Static, Of_thread, Of_frame, Cell, same_root, same_cell}
 use Rattle.c_program.specs.Requests.{Store, Sets, Copies, Clears, Zeroes}
-use Rattle.c_program.specs.Effects.{Sync, Takes, Resumes, Effect}
+use Rattle.c_program.specs.Effects.{Sync, Takes, Resumes}
 use Rattle.c_program.specs.Step.{Choice}
 use Rattle.c_program.specs.Runs.{Moment, moment_at}
-use Rattle.c_program.specs.Happens.{takes, store_writes_atomically, writes_atomically}
+use Rattle.c_program.specs.Happens.{takes, store_writes_atomically}
 use Rattle.c_program.proofs.Cells.{cell_same}
-use Rattle.vector_clocks.specs.Steps.{Step, Run}
 use Rattle.vector_clocks.proofs.Cases.{below_next}
-use Rattle.vector_clocks.specs.Kept.{IsOneOf, Lists, ListsValues, IsValue}
-use Rattle.run_clocks.specs.Moments.{step_of, step_at, run_of}
-use Rattle.run_clocks.specs.Laws.{Heard, EachRunIsHeard}
+use Rattle.vector_clocks.specs.Kept.{IsOneOf, Lists, ListsValues}
+use Rattle.run_clocks.specs.Moments.{step_at, run_of}
+use Rattle.run_clocks.specs.Laws.{EachRunIsHeard}
 
 in_first : {A : Type 0} (a : A) (xs ys : List A) → IsOneOf a xs → IsOneOf a (xs ++ ys)
 in_first a [] ys one = absurd one

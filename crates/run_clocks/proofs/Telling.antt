@@ -1,14 +1,10 @@
 -- The laws: happens before and races of a program's runs, by clocks.
-use Rattle.std.proofs.Common.{◌≡◌, ℕ, ◌<◌, true, ◌↔◌, List, ◌∷◌, length, arith}
-use Rattle.misra_base.specs.declared.guideline.Guideline.TheVariants.{D5_1}
+use Rattle.std.proofs.Common.{◌∷◌, length}
 use Rattle.c_program.specs.declared.program.Program.{Program}
-use Rattle.c_program.specs.Values.{Cell, is_static, is_data_cell}
-use Rattle.c_program.specs.Step.{Choice}
-use Rattle.c_program.specs.Runs.{IsGoodRun}
-use Rattle.c_program.specs.Breaks.{BreaksBy}
+use Rattle.c_program.specs.Values.{Cell}
 use Rattle.vector_clocks.proofs.Threads.{before_by_clock, races_by_clock}
-use Rattle.run_clocks.specs.Moments.{run_of, RacesOnData}
-use Rattle.run_clocks.specs.Laws.{BeforeIsOfSteps, RacesAreOfSteps, ClocksTellBefore, ClocksTellRaces, Heard}
+use Rattle.run_clocks.specs.Moments.{run_of}
+use Rattle.run_clocks.specs.Laws.{BeforeIsOfSteps, RacesAreOfSteps, ClocksTellBefore, ClocksTellRaces}
 use Rattle.run_clocks.proofs.Moments.{before_steps, before_moments}
 use Rattle.run_clocks.proofs.Breaking.{breaks_races, moments}
 

@@ -1,11 +1,11 @@
 -- The lines of a text, one after the other.
-use Rattle.std.proofs.Common.{◌≡◌, ◌<◌, ◌≤◌, ◌+◌, ℕ, suc, Bool, true, false, ◌==◌, List, [], ◌∷◌, ◌++◌, length, map, refl, sym, ap, ◌∙◌, subst, arith, Some, None, Option, Ok, Err, append_assoc, length-append, zero-add}
+use Rattle.std.proofs.Common.{◌≡◌, ◌<◌, ◌≤◌, ◌+◌, ℕ, suc, ◌==◌, List, [], ◌∷◌, ◌++◌, length, map, refl, sym, ap, ◌∙◌, arith, Some, None, Option, Ok, Err, length-append, zero-add}
 use Rattle.std.specs.List.{slice_split, filter_map, position_from}
 use Rattle.std.specs.Option.{is_none}
 use Rattle.std.proofs.lemmas.List.Splits.{length-slice_split}
 use Rattle.schedules.specs.declared.choice.Choice.{Choice}
 use Rattle.schedules.specs.declared.schedule.ScheduleStop.TheVariants.{Form}
-use Rattle.schedules.specs.Lines.{lines, lines_in, lines_from, unended, choice_of_line, first_of, first_written}
+use Rattle.schedules.specs.Lines.{lines, lines_in, unended, choice_of_line, first_of, first_written}
 use Rattle.schedules.specs.Schedules.{schedule_in, judged}
 
 -- a line that an LF ends, and what stands behind it

@@ -1,5 +1,5 @@
 -- What a schedule is, and why a text is none.
-use Rattle.std.specs.Prelude.{ℕ, Bool, ◌||◌, nat_lt, if◌then◌else◌, List, [], ◌∷◌, length, Option, Some, None, Result, Ok, Err}
+use Rattle.std.specs.Prelude.{ℕ, Bool, ◌||◌, nat_lt, if◌then◌else◌, List, length, Option, Some, None, Result, Ok, Err}
 use Rattle.std.specs.List.{filter_map, position_from}
 use Rattle.std.specs.Option.{is_none}
 use Rattle.schedules.specs.declared.choice.Choice.{Choice}

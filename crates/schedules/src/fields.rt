@@ -1,6 +1,5 @@
 //! The choice that a line writes.
 ghost use Rattle.std.specs.Prelude.{◌≡◌, map, option_copied};
-ghost use Rattle.std.specs.Option.{option_map};
 ghost use Rattle.schedules.specs.Lines.{choice_of_line, values_of, value as value_in};
 ghost use Rattle.schedules.specs.Pieces.{pieces_behind};
 

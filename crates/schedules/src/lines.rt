@@ -1,5 +1,5 @@
 //! The lines of a schedule.
-ghost use Rattle.std.specs.Prelude.{◌≡◌, ◌∷◌, ◌<◌, ◌≤◌, ℕ, length, suc, Some, None, MatchOption};
+ghost use Rattle.std.specs.Prelude.{◌≡◌, ◌∷◌, ◌<◌, length, suc, Some, None, MatchOption};
 ghost use Rattle.schedules.specs.Lines.{lines, first_written};
 
 use crate::choice::Choice;

@@ -1,4 +1,4 @@
-use Rattle.std.proofs.Common.{◌≡◌, ◌≤◌, ◌+◌, length, map, List, [], ◌∷◌}
+use Rattle.std.proofs.Common.{◌≡◌, ◌≤◌, ◌+◌, length, map, [], ◌∷◌}
 use Rattle.std.specs.Prelude.{pos, option_copied}
 use Rattle.std.specs.Option.{option_map_or}
 use Rattle.schedules.specs.Lines.{value}

@@ -1,5 +1,4 @@
-use Rattle.std.proofs.Common.{◌≡◌, ◌==◌, ◌∷◌, ap, ◌∙◌, option_copied}
-use Rattle.std.specs.List.{slice_split}
+use Rattle.std.proofs.Common.{◌∷◌, ap, ◌∙◌, option_copied}
 use Rattle.schedules.specs.Pieces.{pieces_behind}
 use Rattle.schedules.proofs.Lining.{counted_ended}
 use Rattle.schedules.proofs.lines.behind_line.Goals as goal

@@ -1,4 +1,4 @@
-use Rattle.std.proofs.Common.{◌≡◌, ◌==◌, ◌∷◌, ap, sym, ◌∙◌, option_copied}
+use Rattle.std.proofs.Common.{◌∷◌, ap, sym, ◌∙◌, option_copied}
 use Rattle.schedules.specs.Lines.{choice_of_line, lines}
 use Rattle.schedules.specs.Pieces.{pieces_behind}
 use Rattle.schedules.proofs.Lining.{ended_line, first_outside}
