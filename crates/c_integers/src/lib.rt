@@ -1,13 +1,10 @@
-//! Arithmetic of C's integer types.
+//! C's integer types: their widths, their numbers, and conversions.
 #![tactic(auto)]
 
-mod arithmetic;
 mod conversion;
-mod operators;
 #[cfg(test)]
 mod tests;
 mod widths;
 
-pub use arithmetic::{binary, unary};
-pub use conversion::{converted, in_type};
+pub use conversion::{converted, in_type, number_of, rest};
 pub use widths::{bits, is_in, is_signed};

@@ -4,8 +4,7 @@ ghost use Rattle.c_program.specs.Types.{is_in as is_of};
 ghost use Rattle.c_program.specs.Values.{arithmetic};
 ghost use Rattle.c_program.specs.declared.expression.BinaryOperator.TheVariants as operators;
 
-use crate::conversion::{in_type, number_of, rest};
-use crate::widths::{bits, is_in, is_signed};
+use c_integers::{bits, in_type, is_in, is_signed, number_of, rest};
 use c_program::expression::BinaryOperator;
 use c_program::types::Integer;
 

@@ -2,9 +2,9 @@
 ghost use Rattle.std.specs.Prelude.{◌≡◌, true};
 ghost use Rattle.c_program.specs.Types.{is_in as is_of};
 ghost use Rattle.c_program.specs.Values.{arithmetic, unary as unary_at};
-ghost use Rattle.c_integers.specs.Operands.{IsOperand};
+ghost use Rattle.c_arithmetic.specs.Operands.{IsOperand};
 
-use crate::conversion::{converted, in_type};
+use c_integers::{converted, in_type};
 use crate::operators::{bitwise, product, quotient, remainder, shifted_left, shifted_right};
 use c_program::expression::{BinaryOperator, UnaryOperator};
 use c_program::types::Integer;
