@@ -1,5 +1,5 @@
 -- The choices of a schedule as those of a run, the last first.
-use Rattle.std.specs.Prelude.{ℕ, List, [], ◌∷◌, map, take, reverse}
+use Rattle.std.specs.Prelude.{ℕ, List, map, take, reverse}
 use Rattle.schedules.specs.declared.choice.Choice.{Choice as Written}
 use Rattle.c_program.specs.Step.{Choice}
 

@@ -4,7 +4,7 @@ use Rattle.schedules.specs.declared.choice.Choice.{Choice as Written}
 use Rattle.run_replay.specs.declared.outcome.End.{End}
 use Rattle.run_replay.specs.declared.outcome.End.TheVariants as ends
 use Rattle.c_program.specs.declared.program.Program.{Program}
-use Rattle.c_program.specs.Step.{Choice, Outcome, No_step, Undefined, Does}
+use Rattle.c_program.specs.Step.{Choice, Outcome, Undefined}
 use Rattle.c_program.specs.Runs.{state_after, outcome_of}
 use Rattle.run_replay.specs.Choices.{first_choices}
 

@@ -1,12 +1,12 @@
 -- What is told of a step: its thread, the place of its action, and the function that the thread runs.
-use Rattle.std.specs.Prelude.{◌≡◌, ℕ, List, [], ◌∷◌, Option, Some, None, option_map, option_and_then, slice_get, unwrap_or}
+use Rattle.std.specs.Prelude.{ℕ, List, [], ◌∷◌, Option, Some, None, option_map, option_and_then, slice_get}
 use Rattle.misra_base.specs.declared.place.Place.{Place}
 use Rattle.c_program.specs.declared.action.Act.{Act}
 use Rattle.c_program.specs.declared.action.Act.TheVariants.{Library, Call}
 use Rattle.c_program.specs.declared.action.LibraryCall.TheVariants.{ThreadCreate}
 use Rattle.c_program.specs.declared.program.Program.{Program}
 use Rattle.c_program.specs.Syntax.{act_at, function_at}
-use Rattle.c_program.specs.Control.{Spot, Move, move_at}
+use Rattle.c_program.specs.Control.{Spot, move_at}
 use Rattle.c_program.specs.State.{State, control_of, string_at}
 use Rattle.c_program.specs.Step.{Choice}
 
