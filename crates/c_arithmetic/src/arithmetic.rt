@@ -1,15 +1,19 @@
 //! The operators on numbers (C11 6.5.3 to 6.5.12).
 ghost use Rattle.std.specs.Prelude.{◌≡◌, true};
 ghost use Rattle.c_program.specs.Types.{is_in as is_of};
-ghost use Rattle.c_program.specs.Values.{arithmetic, unary as unary_at};
+ghost use Rattle.c_program.specs.Values.{arithmetic, truth as truth_of, unary as unary_at};
 ghost use Rattle.c_arithmetic.specs.Operands.{IsOperand};
 
+use crate::operators::{
+    bit_and, bit_or, bit_xor, product, quotient, remainder, shifted_left, shifted_right,
+};
 use c_integers::{converted, in_type};
-use crate::operators::{bitwise, product, quotient, remainder, shifted_left, shifted_right};
 use c_program::expression::{BinaryOperator, UnaryOperator};
 use c_program::types::Integer;
 
-fn truth(holds: bool) -> i128 {
+fn truth(holds: bool) -> i128
+    ensures { result ≡ truth_of holds }
+{
     if holds { 1 } else { 0 }
 }
 
@@ -33,9 +37,9 @@ pub fn binary(operator: BinaryOperator, integer: Integer, a: i128, b: i128) -> O
         BinaryOperator::GreaterEqual => Some(truth(b <= a)),
         BinaryOperator::Equal => Some(truth(a == b)),
         BinaryOperator::NotEqual => Some(truth(a != b)),
-        BinaryOperator::BitAnd | BinaryOperator::BitXor | BinaryOperator::BitOr => {
-            Some(bitwise(operator, integer, a, b))
-        }
+        BinaryOperator::BitAnd => Some(bit_and(integer, a, b)),
+        BinaryOperator::BitXor => Some(bit_xor(integer, a, b)),
+        BinaryOperator::BitOr => Some(bit_or(integer, a, b)),
     }
 }
 

@@ -1,11 +1,10 @@
 //! The operators whose results may have no meaning.
-ghost use Rattle.std.specs.Prelude.{◌≡◌, true};
+ghost use Rattle.std.specs.Prelude.{◌≡◌, ◌<◌, ℕ, ℤ, true, Option, Some, None, MatchOption};
 ghost use Rattle.c_program.specs.Types.{is_in as is_of};
-ghost use Rattle.c_program.specs.Values.{arithmetic};
+ghost use Rattle.c_program.specs.Values.{arithmetic, shift};
 ghost use Rattle.c_program.specs.declared.expression.BinaryOperator.TheVariants as operators;
 
 use c_integers::{bits, in_type, is_in, is_signed, number_of, rest};
-use c_program::expression::BinaryOperator;
 use c_program::types::Integer;
 
 pub fn product(integer: Integer, a: i128, b: i128) -> Option<i128>
@@ -47,24 +46,30 @@ pub fn remainder(integer: Integer, a: i128, b: i128) -> Option<i128>
     }
 }
 
-/// Whether a shift by the count has a meaning (C11 6.5.7p3).
-fn is_count(integer: Integer, count: i128) -> bool {
-    0 <= count && count < bits(integer) as i128
+/// The count of a shift, None where it is outside the width (C11 6.5.7p3).
+fn count_of(integer: Integer, count: i128) -> Option<u32>
+    ensures { MatchOption result ((by : ℕ → Option ℤ) → shift by integer count ≡ None)
+        (λ k. (k < 64) × ((by : ℕ → Option ℤ) → shift by integer count ≡ by k)) }
+{
+    if 0 <= count && count < bits(integer) as i128 {
+        Some(count as u32)
+    } else {
+        None
+    }
 }
 
 pub fn shifted_left(integer: Integer, a: i128, count: i128) -> Option<i128>
     requires { is_of integer a ≡ true }
     ensures { result ≡ arithmetic operators.ShiftLeft integer a count }
 {
-    if !is_count(integer, count) {
-        None
-    } else if is_signed(integer) && a < 0 {
-        None
-    } else if is_signed(integer) {
-        in_type(integer, a << count as u32)
-    } else {
+    let count = count_of(integer, count)?;
+    if !is_signed(integer) {
         let all: u128 = 1 << bits(integer);
-        Some(number_of(integer, ((a as u128) << count as u32) % all))
+        Some(number_of(integer, ((a as u128) << count) % all))
+    } else if a < 0 {
+        None
+    } else {
+        in_type(integer, a << count)
     }
 }
 
@@ -73,21 +78,28 @@ pub fn shifted_right(integer: Integer, a: i128, count: i128) -> Option<i128>
     requires { is_of integer a ≡ true }
     ensures { result ≡ arithmetic operators.ShiftRight integer a count }
 {
-    if is_count(integer, count) {
-        Some(a >> count as u32)
-    } else {
-        None
-    }
+    let count = count_of(integer, count)?;
+    Some(a >> count)
 }
 
-pub fn bitwise(operator: BinaryOperator, integer: Integer, a: i128, b: i128) -> i128 {
+/// `&`, `^` and `|` of the patterns of bits.
+pub fn bit_and(integer: Integer, a: i128, b: i128) -> i128
+    ensures { Some result ≡ arithmetic operators.BitAnd integer a b }
+{
     let bits = bits(integer);
-    let a = rest(bits, a);
-    let b = rest(bits, b);
-    let pattern = match operator {
-        BinaryOperator::BitAnd => a & b,
-        BinaryOperator::BitXor => a ^ b,
-        _ => a | b,
-    };
-    number_of(integer, pattern)
+    number_of(integer, rest(bits, a) & rest(bits, b))
+}
+
+pub fn bit_xor(integer: Integer, a: i128, b: i128) -> i128
+    ensures { Some result ≡ arithmetic operators.BitXor integer a b }
+{
+    let bits = bits(integer);
+    number_of(integer, rest(bits, a) ^ rest(bits, b))
+}
+
+pub fn bit_or(integer: Integer, a: i128, b: i128) -> i128
+    ensures { Some result ≡ arithmetic operators.BitOr integer a b }
+{
+    let bits = bits(integer);
+    number_of(integer, rest(bits, a) | rest(bits, b))
 }
