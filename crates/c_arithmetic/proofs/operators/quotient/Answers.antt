@@ -1,0 +1,12 @@
+use Rattle.std.proofs.Common.{arith, ap, ◌∙◌}
+use Rattle.c_arithmetic.proofs.operators.quotient.Goals.{then-b-eq0, else-b-eq0+then-is_signed, else-b-eq0+else-is_signed}
+use Rattle.c_arithmetic.proofs.operators.quotient.Goals as goal
+
+pub nonzero_div-result : goal.nonzero_div-result
+nonzero_div-result c = elim c.if-b-eq0.branch [ then-b-eq0 w ↦ ? | else-b-eq0+then-is_signed w ↦ ? | else-b-eq0+else-is_signed w ↦ ? ]
+
+pub returns-then-not-is_in : goal.returns-then-not-is_in
+returns-then-not-is_in c = ?
+
+pub returns-else-not-is_in : goal.returns-else-not-is_in
+returns-else-not-is_in c = ?
